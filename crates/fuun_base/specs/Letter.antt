@@ -1,0 +1,19 @@
+use Rattle.std.specs.Prelude.{ℕ, ◌==◌, if◌then◌else◌, Option, Some, None}
+use Rattle.fuun_base.specs.declared.letters.Base.{Base}
+use Rattle.fuun_base.specs.declared.letters.Base.TheVariants.{I, C, F, P}
+
+-- the letter of a base, as an ASCII byte
+abbrev pub letter_of : Base → ℕ
+letter_of I = 73
+letter_of C = 67
+letter_of F = 70
+letter_of P = 80
+
+-- the base that a byte is the letter of
+abbrev pub base_of : ℕ → Option Base
+base_of byte =
+    if byte == 73 then Some I
+    else if byte == 67 then Some C
+    else if byte == 70 then Some F
+    else if byte == 80 then Some P
+    else None

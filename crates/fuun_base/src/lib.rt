@@ -1,0 +1,14 @@
+//! What the layers of the processor share: bases, quoting, numbers as bases, commands, DNA files, and the counter of steps.
+#![tactic(auto)]
+
+mod commands;
+mod counter;
+mod dna_file;
+mod letters;
+mod lists;
+
+pub use commands::Command;
+pub use counter::Steps;
+pub use dna_file::{DnaError, read_dna};
+pub use letters::Base;
+pub use lists::{BaseList, CommandList, NoMemory};
