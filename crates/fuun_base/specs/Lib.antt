@@ -1,6 +1,8 @@
 pub mod Letter
 pub mod Quote
 pub mod Occurrence
+pub mod Tally
+pub mod TallyLaws
 pub mod Ticks
 pub mod DnaFile
 pub mod Command

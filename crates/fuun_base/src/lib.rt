@@ -4,11 +4,14 @@
 mod commands;
 mod counter;
 mod dna_file;
+pub mod laws;
 mod letters;
 mod lists;
+mod tally;
 
 pub use commands::Command;
 pub use counter::Steps;
 pub use dna_file::{DnaError, read_dna};
 pub use letters::Base;
 pub use lists::{BaseList, CommandList, NoMemory};
+pub use tally::Tally;
