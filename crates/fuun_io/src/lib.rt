@@ -1,0 +1,12 @@
+//! Reading whole files and writing whole texts, over any folder and any sink.
+#![tactic(auto)]
+
+mod folder;
+mod put;
+mod read;
+mod sink;
+
+pub use folder::{Failed, Folder};
+pub use put::{WriteFault, put_all, put_pieces};
+pub use read::{ReadError, read_all};
+pub use sink::Sink;
