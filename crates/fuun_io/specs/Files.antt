@@ -1,5 +1,5 @@
 -- What a folder gives of a file whose contents are told, and what a folder in memory holds.
-use Rattle.std.specs.Prelude.{◌≡◌, ℕ, ◌≤◌, ◌↔◌, List, [], ◌∷◌, length, take, drop, Option, None, Some, if◌then◌else◌, nat_eq}
+use Rattle.std.specs.Prelude.{◌≡◌, ℕ, ◌≤◌, ◌↔◌, List, length, take, drop}
 
 -- the buffer begins with so many bytes of the contents from a place on, and with none exactly at or past their end
 pub record Gives (contents : List ℕ) (place count : ℕ) (buffer : List ℕ) : Type 0 where
