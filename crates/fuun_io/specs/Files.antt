@@ -1,4 +1,4 @@
--- What a folder gives of a file whose contents are told, and what a folder in memory holds.
+-- What a folder gives of a file whose contents are told.
 use Rattle.std.specs.Prelude.{◌≡◌, ℕ, ◌≤◌, ◌↔◌, List, length, take, drop}
 
 -- the buffer begins with so many bytes of the contents from a place on, and with none exactly at or past their end

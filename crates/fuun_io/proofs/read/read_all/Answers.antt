@@ -16,9 +16,9 @@ loop-folder-preserved g c =
     record {
       room = omega arith;
       front = ReadSoFar-step _ _ _ _ _ _ _ _ _ _ same (c.len-in-loop-folder.ensures ∙ loop.file.ok.0) bound fits
-        c.deref.ensures.value c.in_ok-extend_from_slice.ensures.items loop.invariant.front c.in_ok-count.ensures.bytes;
+          c.deref.ensures.value c.in_ok-extend_from_slice.ensures.items loop.invariant.front c.in_ok-count.ensures.bytes;
       given = c.in_ok-count.ensures.given ∙ ap (λ n. raised n c.in_ok-count.count) loop.invariant.given ∙ raised-raised _ _ _ ∙ ap (raised _) (sym len);
       faults = search rules;
       contents = search rules;
-      allows = search rules
+      allows = search rules;
     }

@@ -10,7 +10,7 @@ invariant-loop-folder g l = record {
   given : g.F.Folder.given l.folder ≡ raised (g.F.Folder.given l.fn.folder) (vec_len l.file);
   faults : g.F.Folder.faults l.folder ≡ g.F.Folder.faults l.fn.folder;
   contents : g.F.Folder.contents l.folder ≡ g.F.Folder.contents l.fn.folder;
-  allows : g.F.Folder.allows l.folder ≡ g.F.Folder.allows l.fn.folder
+  allows : g.F.Folder.allows l.folder ≡ g.F.Folder.allows l.fn.folder;
 }
 
 abbrev pub decreases-loop-folder : goal.decreases-loop-folder
