@@ -1,0 +1,5 @@
+pub mod Counts
+pub mod Files
+pub mod Memory
+pub mod Reading
+pub mod Written
