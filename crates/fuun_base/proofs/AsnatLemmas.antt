@@ -1,10 +1,9 @@
 -- Numbers written as bases.
-use Rattle.std.proofs.Common.{◌≡◌, ℕ, zero, suc, ◌+◌, ◌*◌, ◌/◌, ◌%◌, ◌^◌, ◌<◌, ◌≤◌, Bool, true, false, List, [], ◌∷◌, length, arith, refl, sym, ap, ◌∙◌}
+use Rattle.std.proofs.Common.{◌≡◌, ℕ, zero, suc, ◌+◌, ◌/◌, ◌%◌, ◌^◌, ◌<◌, ◌≤◌, false, [], ◌∷◌, length, arith, refl, sym, ap, ◌∙◌}
 use Rattle.std.specs.Prelude.{◌==◌}
 use Rattle.std.proofs.lemmas.Bool.{ne_eqb}
 use Rattle.std.proofs.Math.Nat.{two-pow-succ}
-use Rattle.fuun_base.specs.declared.letters.Base.{Base}
-use Rattle.fuun_base.specs.declared.letters.Base.TheVariants.{I, C, F, P}
+use Rattle.fuun_base.specs.declared.letters.Base.TheVariants.{P}
 use Rattle.fuun_base.specs.Quote.{digit_base, asnat_from, asnat, bits_from, bits}
 
 not_zero : (n : ℕ) → 0 < n → (n == 0) ≡ false

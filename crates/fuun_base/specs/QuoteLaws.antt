@@ -20,7 +20,7 @@ NumberLength = (n : ℕ) → length (asnat n) ≡ bits n + 1
 abbrev pub NumbersWorked : Type 0
 NumbersWorked =
     (asnat 1 ≡ C ∷ P ∷ []) × (asnat 2 ≡ I ∷ C ∷ P ∷ []) × (asnat 8 ≡ I ∷ I ∷ I ∷ C ∷ P ∷ [])
-        × (asnat 13 ≡ C ∷ I ∷ C ∷ C ∷ P ∷ [])
+    × (asnat 13 ≡ C ∷ I ∷ C ∷ C ∷ P ∷ [])
 
 -- nothing quoted is nothing
 abbrev pub ProtectOfNil : Type 0
@@ -42,5 +42,5 @@ ProtectFour = (d : List Base) → 2 * length d ≤ length (protect 4 d)
 abbrev pub ProtectWorked : Type 0
 ProtectWorked =
     (protect 1 (I ∷ C ∷ F ∷ P ∷ []) ≡ C ∷ F ∷ P ∷ I ∷ C ∷ [])
-        × (protect 4 (P ∷ []) ≡ P ∷ I ∷ C ∷ [])
-        × (protect 7 (P ∷ []) ≡ F ∷ P ∷ P ∷ I ∷ C ∷ [])
+    × (protect 4 (P ∷ []) ≡ P ∷ I ∷ C ∷ [])
+    × (protect 7 (P ∷ []) ≡ F ∷ P ∷ P ∷ I ∷ C ∷ [])

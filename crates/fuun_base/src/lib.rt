@@ -17,3 +17,6 @@ pub use letters::Base;
 pub use lists::{BaseList, CommandList, NoMemory};
 pub use quoting::{asnat_into, quote_into};
 pub use tally::Tally;
+
+#[cfg(test)]
+mod tests;

@@ -1,7 +1,7 @@
 ghost use Rattle.std.specs.Prelude.{◌≡◌, ◌+◌, ◌<◌, ◌≤◌, ◌^◌, List, length, MatchOption};
 ghost use Rattle.fuun_base.specs.Quote.{protect};
 ghost use Rattle.fuun_base.specs.Tally.{tally_of, tally_of_one, tally_sum, tally_total, tally_quoted};
-ghost use Rattle.fuun_base.specs.declared.letters.Base.{Base as ABase};
+ghost use Rattle.fuun_base.specs.declared.letters.Base.{Base};
 
 use crate::Base;
 
@@ -49,7 +49,8 @@ impl Tally {
     pub fn quoted_len(self, level: u64, cap: u64) -> Option<u64>
         requires sum { tally_total self ≤ 2 ^ 41 }
         requires cap { cap ≤ 2 ^ 41 }
-        ensures { (d : List ABase) → tally_of d ≡ self → MatchOption result (cap < length (protect level d)) (λ n. (n ≡ length (protect level d)) × (n ≤ cap)) }
+        ensures { (d : List Base) → tally_of d ≡ self → let len = length (protect level d) in
+            MatchOption result (cap < len) (λ n. (n ≡ len) × (n ≤ cap)) }
     {
         let mut tally = self;
         let mut left = level;

@@ -1,4 +1,4 @@
-use Rattle.std.proofs.Common.{◌≡◌, ℕ, ◌+◌, ◌≤◌, [], ◌∷◌, ◌++◌, length, arith, ap, sym, ◌∙◌, append_assoc}
+use Rattle.std.proofs.Common.{◌≡◌, ◌++◌, length, arith, ap, sym, ◌∙◌}
 use Rattle.std.proofs.lemmas.Grind.{common_steps}
 use Rattle.fuun_base.specs.Quote.{asnat}
 use Rattle.fuun_base.proofs.AsnatLemmas.{asnat-zero, asnat-digit, length-asnat_le}
@@ -7,7 +7,7 @@ use Rattle.fuun_base.proofs.quoting.asnat_into.Goals as goal
 pub loop-left-init : goal.loop-left-init
 loop-left-init c = record {
   added = ap (λ l. l ++ asnat c.args.n) c.reserve.ensures.items;
-  room = omega (arith, length-asnat_le 64 c.args.n c.ranges.n.fits, c.in_ok-reserve.ensures.ok)
+  room = omega (arith, length-asnat_le 64 c.args.n c.ranges.n.fits, c.in_ok-reserve.ensures.ok);
 }
 
 pub push_reserved-requires : goal.push_reserved-requires
@@ -18,7 +18,7 @@ loop-left-preserved c =
     let digit = asnat-digit c.loop-left.left c.loop-left-test.true in
     record {
       added = grind (arith, common_steps, digit);
-      room = omega (arith, ap length digit)
+      room = omega (arith, ap length digit);
     }
 
 pub push_reserved-requires-2 : goal.push_reserved-requires-2

@@ -6,5 +6,5 @@ use Rattle.fuun_base.proofs.quoting.quote_into.Given as goal
 abbrev pub invariant-loop-base : goal.invariant-loop-base
 invariant-loop-base l = record {
   added : l.out.items ≡ l.fn.out.items ++ quote (take l.base-index l.source);
-  room : vec_len l.out + length (quote (drop l.base-index l.source)) ≤ vec_capacity l.out
+  room : vec_len l.out + length (quote (drop l.base-index l.source)) ≤ vec_capacity l.out;
 }

@@ -1,5 +1,5 @@
-use Rattle.std.proofs.Common.{◌≡◌, ℕ, ◌+◌, ◌≤◌, ◌++◌, length, take, get_or, arith, ap, ◌∙◌, length-append}
-use Rattle.std.proofs.lemmas.List.{length-take-le, take_all}
+use Rattle.std.proofs.Common.{length, take, get_or, arith, ap, length-append}
+use Rattle.std.proofs.lemmas.List.{length-take-le}
 use Rattle.fuun_base.specs.declared.letters.Base.TheVariants.{I}
 use Rattle.fuun_base.specs.Quote.{quote, quote_of}
 use Rattle.fuun_base.proofs.QuoteLemmas.{quote_more, length-quote_le}
