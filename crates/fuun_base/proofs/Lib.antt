@@ -1,3 +1,6 @@
+pub mod AsnatLemmas
 pub mod Counting
+pub mod OccurrenceLemmas
+pub mod QuoteLemmas
 pub mod Reading
 pub mod Writing

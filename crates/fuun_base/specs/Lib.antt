@@ -1,6 +1,8 @@
 pub mod Letter
 pub mod Quote
+pub mod QuoteLaws
 pub mod Occurrence
+pub mod OccurrenceLaws
 pub mod Tally
 pub mod TallyLaws
 pub mod Ticks

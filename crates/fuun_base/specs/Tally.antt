@@ -23,3 +23,7 @@ tally_of (b ∷ d) = tally_sum (tally_of_one b) (tally_of d)
 -- how many bases a tally counts in all
 abbrev pub tally_total : Tally → ℕ
 tally_total t = t.i + t.c + t.f + t.p
+
+-- the tally of a list's quote, by the list's tally
+abbrev pub tally_quoted : Tally → Tally
+tally_quoted t = record { i = t.p; c = t.i + t.p; f = t.c; p = t.f }

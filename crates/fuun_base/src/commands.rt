@@ -32,7 +32,8 @@ impl Model for Command {
 impl Command {
     /// The command of these bases: None exactly where there are more than 7.
     pub fn from_bases(bases: &[Base]) -> Option<Command>
-        ensures { MatchOption result (7 < length bases.now) (λ command. (command ≡ bases.now) × (length bases.now ≤ 7)) }
+        ensures { MatchOption result (7 < length bases.now)
+            (λ command. (command ≡ bases.now) × (length bases.now ≤ 7)) }
     {
         if bases.len() > 7 {
             return None;
@@ -63,6 +64,6 @@ impl Command {
         for (index, base) in used.iter().enumerate() {
             out[index] = base.letter();
         }
-        self.len
+        used.len()
     }
 }

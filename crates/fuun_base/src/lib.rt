@@ -7,6 +7,7 @@ mod dna_file;
 pub mod laws;
 mod letters;
 mod lists;
+mod quoting;
 mod tally;
 
 pub use commands::Command;
@@ -14,4 +15,8 @@ pub use counter::Steps;
 pub use dna_file::{DnaError, read_dna};
 pub use letters::Base;
 pub use lists::{BaseList, CommandList, NoMemory};
+pub use quoting::{asnat_into, quote_into};
 pub use tally::Tally;
+
+#[cfg(test)]
+mod tests;

@@ -1,5 +1,7 @@
-ghost use Rattle.std.specs.Prelude.{◌≡◌, ◌+◌, ◌<◌, ◌≤◌, ◌^◌, length};
-ghost use Rattle.fuun_base.specs.Tally.{tally_of, tally_of_one, tally_sum, tally_total};
+ghost use Rattle.std.specs.Prelude.{◌≡◌, ◌+◌, ◌<◌, ◌≤◌, ◌^◌, List, length, MatchOption};
+ghost use Rattle.fuun_base.specs.Quote.{protect};
+ghost use Rattle.fuun_base.specs.Tally.{tally_of, tally_of_one, tally_sum, tally_total, tally_quoted};
+ghost use Rattle.fuun_base.specs.declared.letters.Base.{Base};
 
 use crate::Base;
 
@@ -40,6 +42,47 @@ impl Tally {
             c: self.c + other.c,
             f: self.f + other.f,
             p: self.p + other.p,
+        }
+    }
+
+    /// The length of a list of this tally after quoting it `level` times: None exactly where that is above `cap`.
+    pub fn quoted_len(self, level: u64, cap: u64) -> Option<u64>
+        requires sum { tally_total self ≤ 2 ^ 41 }
+        requires cap { cap ≤ 2 ^ 41 }
+        ensures { (d : List Base) → tally_of d ≡ self → let len = length (protect level d) in
+            MatchOption result (cap < len) (λ n. (n ≡ len) × (n ≤ cap)) }
+    {
+        let mut tally = self;
+        let mut left = level;
+        loop {
+            let len = tally.total();
+            if len > cap {
+                return None;
+            }
+            if left == 0 || len == 0 {
+                return Some(len);
+            }
+            tally = tally.quoted();
+            left -= 1;
+        }
+    }
+
+    fn total(self) -> u64
+        requires { tally_total self < 2 ^ 64 }
+        ensures { result ≡ tally_total self }
+    {
+        self.i + self.c + self.f + self.p
+    }
+
+    fn quoted(self) -> Tally
+        requires { tally_total self < 2 ^ 64 }
+        ensures { result ≡ tally_quoted self }
+    {
+        Tally {
+            i: self.p,
+            c: self.i + self.p,
+            f: self.c,
+            p: self.f,
         }
     }
 
