@@ -1,8 +1,7 @@
 use super::*;
+use crate::read::PIECE_BYTES;
 use std::alloc::{AllocError, Global};
 use std::test::Fail;
-
-const PIECE_BYTES: usize = 1 << 16;
 
 // More than one piece, and its last byte is another.
 fn two_pieces(alloc: Global) -> Result<Vec<u8>, AllocError> {
