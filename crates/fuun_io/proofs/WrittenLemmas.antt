@@ -1,5 +1,5 @@
 -- Lemmas on what texts leave on a sink.
-use Rattle.std.proofs.Common.{◌≡◌, ℕ, suc, ◌+◌, ◌-◌, ◌<◌, List, [], ◌++◌, length, get_or, take, drop, flat_map, Bor, Option, None, Some, refl, sym, ap, ◌∙◌, append_assoc, append-nil, take-append-drop, drop-cons}
+use Rattle.std.proofs.Common.{◌≡◌, ℕ, suc, ◌+◌, ◌-◌, ◌<◌, List, [], ◌++◌, length, get_or, take, drop, flat_map, Bor, Option, None, Some, IfSome, refl, sym, ap, ◌∙◌, append_assoc, append-nil, take-append-drop, drop-cons}
 use Rattle.std.proofs.Math.Seq.{take-add}
 use Rattle.std.proofs.lemmas.List.{take_rest}
 use Rattle.std.proofs.lemmas.List.Concat.{flat_map-cons}
@@ -28,6 +28,11 @@ appended-rest old mid new done count bytes front more =
 -- nothing was put
 pub PutsFront-none : (told : Option (List ℕ)) (bytes : List ℕ) → PutsFront told told bytes
 PutsFront-none told bytes = record { front = []; rest = bytes; whole = refl; put = sym (appended-nil told) }
+
+-- nothing was put of a text that may be known
+pub PutsFront-none_of : {A : Type 0} (known : Option A) (text : A → List ℕ) (told : Option (List ℕ)) → IfSome known (λ a. PutsFront told told (text a))
+PutsFront-none_of None text told = tt
+PutsFront-none_of (Some a) text told = PutsFront-none told (text a)
 
 -- all was put
 pub PutsFront-all : (old new : Option (List ℕ)) (bytes : List ℕ) → new ≡ appended old bytes → PutsFront old new bytes

@@ -3,7 +3,7 @@ ghost use Rattle.std.specs.Prelude.{◌≡◌, ℕ, ◌<◌, ◌≤◌, Bool, Li
 ghost use Rattle.fuun_io.specs.Counts.{raised, HasCause};
 ghost use Rattle.fuun_io.specs.Files.{Gives};
 
-/// A read or a write failed, and the one that failed has counted it.
+/// A read or a write failed. The folder or sink that answers it has counted the fault.
 #[derive(Clone, Copy, Debug, PartialEq, Eq)]
 pub struct Failed;
 
@@ -15,14 +15,14 @@ pub trait Folder {
     /// Whether a name may be asked for.
     ghost allows: { Self → List ℕ → Bool };
 
-    /// How many faults were counted so far.
+    /// How many faults were counted so far, up to `u64::MAX`.
     ghost faults: { Self → ℕ };
 
-    /// How many bytes were given so far.
+    /// How many bytes were given so far, up to `u64::MAX`.
     ghost given: { Self → ℕ };
 
-    /// Writes the bytes of a file from byte `at_byte` on to the front of the buffer, and answers how many.
-    /// `Ok(0)` means the end of the file. An unknown name is a fault.
+    /// Writes the bytes of a file from byte `at_byte` on, counted from 0, to the front of the buffer, and
+    /// answers how many. `Ok(0)` means that the file ends there or before. An unknown name is a fault.
     fn piece(&mut self, name: &str, at_byte: u64, buf: &mut [u8]) -> Result<usize, Failed>
         requires room { 0 < length buf.old }
         requires allowed { IsTrue (allows self.old name.now) }

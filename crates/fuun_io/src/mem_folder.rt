@@ -5,25 +5,9 @@ ghost use Rattle.fuun_io.specs.Counts.{raised, HasCause};
 ghost use Rattle.fuun_io.specs.Files.{Gives};
 ghost use Rattle.fuun_io.specs.Memory.{told, read_fails};
 
-use crate::{Failed, Folder};
-use std::alloc::{AllocError, AllocFailed, Global};
+use crate::{Failed, Folder, NoMemory};
+use std::alloc::Global;
 use std::marker::Model;
-
-/// There was no memory.
-#[derive(Clone, Copy, Debug, PartialEq, Eq)]
-pub struct NoMemory;
-
-impl From<AllocError> for NoMemory {
-    fn from(_: AllocError) -> Self {
-        NoMemory
-    }
-}
-
-impl<T: Drop> From<AllocFailed<T>> for NoMemory {
-    fn from(_: AllocFailed<T>) -> Self {
-        NoMemory
-    }
-}
 
 #[derive(Drop)]
 struct File {

@@ -8,7 +8,7 @@ use crate::{Failed, Folder};
 use std::alloc::{AllocError, Global};
 
 /// Bytes asked for at a time.
-const PIECE_BYTES: usize = 1 << 16;
+pub(crate) const PIECE_BYTES: usize = 1 << 16;
 
 /// Why a file was not read whole.
 #[derive(Clone, Copy, Debug, PartialEq, Eq)]
@@ -36,7 +36,8 @@ impl From<AllocError> for ReadError {
     }
 }
 
-/// Reads a file once, from its first byte to its end. It may have at most `cap` bytes.
+/// Reads a file once, from its first byte to its end, which may lie at most `cap` bytes on. It asks for no
+/// byte after a fault, nor once more than `cap` bytes were given.
 pub fn read_all<F: Folder>(
     alloc: Global,
     folder: &mut F,

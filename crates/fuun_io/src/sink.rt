@@ -10,10 +10,11 @@ pub trait Sink {
     /// The bytes written so far, where they are told.
     ghost bytes: { Self → Option (List ℕ) };
 
-    /// How many faults were counted so far.
+    /// How many faults were counted so far, up to `u64::MAX`.
     ghost faults: { Self → ℕ };
 
-    /// Writes a front of the piece, at least one byte of it, and answers how many bytes.
+    /// Writes a front of the piece, at least one byte, and answers how many. A device that takes none is
+    /// answered as `Failed`.
     fn put(&mut self, piece: &[u8]) -> Result<usize, Failed>
         requires { 0 < length piece.now }
         ensures some { IfOk result (λ count. 1 ≤ count) }

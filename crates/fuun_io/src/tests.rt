@@ -1,8 +1,7 @@
 use super::*;
+use crate::read::PIECE_BYTES;
 use std::alloc::{AllocError, Global};
 use std::test::Fail;
-
-const PIECE_BYTES: usize = 1 << 16;
 
 // More than one piece, and its last byte is another.
 fn two_pieces(alloc: Global) -> Result<Vec<u8>, AllocError> {
@@ -30,7 +29,9 @@ fn files_are_read_whole(rt: HostRuntime) -> Result<(), Fail> {
         ("short", b"ICFP".as_slice()),
     ] {
         let mut folder = folder(alloc)?;
-        let file = read_all(alloc, &mut folder, name, want.len() as u64)?;
+        let cap = want.len() as u64;
+        assert!(rt; cap < 1 << 20);
+        let file = read_all(alloc, &mut folder, name, cap)?;
         assert_eq!(rt; file.as_slice(), want, "{name}");
     }
     Ok(())
