@@ -1,4 +1,4 @@
-ghost use Rattle.std.specs.Prelude.{◌≡◌, ℕ, OnOk, IfOk};
+ghost use Rattle.std.specs.Prelude.{◌≡◌, ℕ, ◌≤◌, length, OnOk, IfOk};
 ghost use Rattle.fuun_base.specs.declared.dna_file.DnaError.TheVariants.{NoMemory as OutOfMemory};
 ghost use Rattle.fuun_base.specs.DnaFile.{bases, first_other};
 
@@ -32,6 +32,7 @@ impl<T: Drop> From<AllocFailed<T>> for DnaError {
 /// Reads a DNA file: the letters I, C, F and P, and nothing else.
 pub fn read_dna(alloc: Global, bytes: &[u8]) -> Result<BaseList, DnaError>
     ensures bases { IfOk result (λ list. list ≡ bases bytes.now) }
+    ensures most { IfOk result (λ list. length list ≤ length bytes.now) }
     ensures no_other { OnOk result (first_other bytes.now ≡ None) }
     ensures other { (place : ℕ) → result ≡ Err (DnaError.BadBase place) → first_other bytes.now ≡ Some place }
 {
