@@ -1,0 +1,8 @@
+//! The items of patterns and templates.
+#![tactic(auto)]
+
+mod item_lists;
+mod items;
+
+pub use item_lists::{PatList, TplList};
+pub use items::{BIG, PatItem, TplItem};

@@ -1,0 +1,11 @@
+//! The commands of RNA: what each does to the picture, and its name.
+#![tactic(auto)]
+
+mod acts;
+mod table;
+
+pub use acts::{Act, Ink};
+pub use table::{decode, name};
+
+#[cfg(test)]
+mod tests;

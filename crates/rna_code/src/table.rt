@@ -1,0 +1,85 @@
+//! The table of commands.
+
+ghost use Rattle.std.specs.Prelude.{◌≡◌};
+ghost use Rattle.std.specs.Option.{option_map};
+ghost use Rattle.rna_code.specs.Commands.{act_of, name_of, row_among, row_of, rows, spells};
+
+use crate::acts::{Act, Ink};
+use fuun_base::Command;
+
+/// What a command does: `None` exactly for a command outside the table, which is ignored.
+pub fn decode(command: &Command) -> Option<Act>
+    ensures { result ≡ act_of command.now }
+{
+    row_of(command).map(|row| row.act)
+}
+
+/// The name of a command: `other` for a command outside the table.
+pub fn name(command: &Command) -> &'static str
+    ensures { result.now ≡ name_of command.now }
+{
+    row_of(command).map_or("other", |row| row.name)
+}
+
+// One row of the table.
+#[derive(Clone, Copy)]
+struct Row {
+    name: &'static str,
+    act: Act,
+}
+
+// The row of a command.
+fn row_of(command: &Command) -> Option<Row>
+    ensures name { option_map (λ found. found.name.now) result ≡ option_map (λ r. r.name) (row_of command.now) }
+    ensures act { option_map (λ found. found.act) result ≡ option_map (λ r. r.act) (row_of command.now) }
+{
+    let mut letters = [0; 7];
+    let len = command.letters(&mut letters);
+    find_row(&letters[..len])
+}
+
+// A word is these letters.
+fn spells(word: &[u8], letters: &[u8; 7]) -> bool
+    ensures { result ≡ spells word.now letters.now }
+{
+    word == letters.as_slice()
+}
+
+// The first row with these letters.
+fn find_row(word: &[u8]) -> Option<Row>
+    ensures name { option_map (λ found. found.name.now) result ≡ option_map (λ r. r.name) (row_among rows word.now) }
+    ensures act { option_map (λ found. found.act) result ≡ option_map (λ r. r.act) (row_among rows word.now) }
+{
+    macro_rules! table {
+        ($($letters:literal $name:literal $act:expr;)*) => {
+            $(
+                if spells(word, $letters) {
+                    return Some(Row { name: $name, act: $act });
+                }
+            )*
+        };
+    }
+    table! {
+        b"PIPIIIC" "black" Act::Add(Ink::Black);
+        b"PIPIIIP" "red" Act::Add(Ink::Red);
+        b"PIPIICC" "green" Act::Add(Ink::Green);
+        b"PIPIICF" "yellow" Act::Add(Ink::Yellow);
+        b"PIPIICP" "blue" Act::Add(Ink::Blue);
+        b"PIPIIFC" "magenta" Act::Add(Ink::Magenta);
+        b"PIPIIFF" "cyan" Act::Add(Ink::Cyan);
+        b"PIPIIPC" "white" Act::Add(Ink::White);
+        b"PIPIIPF" "transparent" Act::Add(Ink::Transparent);
+        b"PIPIIPP" "opaque" Act::Add(Ink::Opaque);
+        b"PIIPICP" "empty" Act::EmptyBucket;
+        b"PIIIIIP" "move" Act::Move;
+        b"PCCCCCP" "counterclockwise" Act::TurnLeft;
+        b"PFFFFFP" "clockwise" Act::TurnRight;
+        b"PCCIFFP" "mark" Act::Mark;
+        b"PFFICCP" "line" Act::Line;
+        b"PIIPIIP" "fill" Act::Fill;
+        b"PCCPFFP" "layer" Act::AddLayer;
+        b"PFFPCCP" "compose" Act::Compose;
+        b"PFFICCF" "clip" Act::Clip;
+    }
+    None
+}

@@ -1,0 +1,4 @@
+pub mod Fronts
+pub mod Levels
+pub mod Ranges
+pub mod Shifting
