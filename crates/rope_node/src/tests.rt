@@ -29,7 +29,15 @@ fn nodes<L: Ledger, R: Abort>(rt: &R, alloc: Global, blank: Blank) -> Result<(),
     assert!(rt; is_leaf_of(first, &[Base::I, Base::C, Base::C]));
     assert!(rt; is_leaf_of(last, &[Base::P]));
     assert_eq!(rt; (shared.len(), shared.height()), (4, 1));
-    assert_eq!(rt; shared.tally(), Tally { i: 1, c: 2, f: 0, p: 1 });
+    assert_eq!(rt;
+        shared.tally(),
+        Tally {
+            i: 1,
+            c: 2,
+            f: 0,
+            p: 1
+        }
+    );
     Ok(())
 }
 

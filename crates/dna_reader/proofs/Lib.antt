@@ -1,0 +1,11 @@
+pub mod Cutting
+pub mod Rows
+pub mod NumeralLemmas
+pub mod ReadingLemmas
+pub mod ConstantLemmas
+pub mod TableLemmas
+pub mod WindowLemmas
+pub mod HeldLemmas
+pub mod PieceLemmas
+pub mod StepLemmas
+pub mod EndLemmas

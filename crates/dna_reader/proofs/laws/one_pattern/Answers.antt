@@ -1,0 +1,10 @@
+use Rattle.dna_reader.specs.Tables.{pattern_table}
+use Rattle.dna_reader.proofs.ReadingLemmas.{has_reading, one_reading}
+use Rattle.dna_reader.proofs.TableLemmas.{pattern_fits}
+use Rattle.dna_reader.proofs.laws.one_pattern.Goals as goal
+
+pub returns-clause-read : goal.returns-clause-read
+returns-clause-read c = has_reading pattern_table pattern_fits
+
+pub returns-clause-once : goal.returns-clause-once
+returns-clause-once c = one_reading pattern_table

@@ -1,0 +1,10 @@
+use Rattle.dna_reader.specs.Tables.{template_table}
+use Rattle.dna_reader.proofs.ReadingLemmas.{has_reading, one_reading}
+use Rattle.dna_reader.proofs.TableLemmas.{template_fits}
+use Rattle.dna_reader.proofs.laws.one_template.Goals as goal
+
+pub returns-clause-read : goal.returns-clause-read
+returns-clause-read c = has_reading template_table template_fits
+
+pub returns-clause-once : goal.returns-clause-once
+returns-clause-once c = one_reading template_table

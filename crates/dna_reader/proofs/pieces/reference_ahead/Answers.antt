@@ -1,0 +1,7 @@
+use Rattle.dna_reader.proofs.PieceLemmas.{reference_read}
+use Rattle.dna_reader.proofs.pieces.reference_ahead.Goals as goal
+
+pub returns-clause-piece : goal.returns-clause-piece
+returns-clause-piece g c =
+    reference_read (g.S.Strand.bases c.args.s.now) c.args.window.now.place c.pass.new.self.place c.in_ok-level.level c.numeral_ahead.new.window.place c.in_ok-n.n c.numeral_ahead-2.new.window.place
+    c.requires.head c.pass.ensures.place c.in_ok-level.ensures.read c.in_ok-n.ensures.read

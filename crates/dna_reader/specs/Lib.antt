@@ -1,0 +1,15 @@
+pub mod Numeral
+pub mod Constants
+pub mod Piece
+pub mod Reading
+pub mod Tables
+pub mod Taking
+pub mod ReadingLaws
+pub mod View
+pub mod Window
+pub mod Digits
+pub mod Front
+pub mod Given
+pub mod Takers
+pub mod Steps
+pub mod Errors

@@ -1,0 +1,16 @@
+//! The readers: numerals, constants, patterns and templates, over any strand.
+#![tactic(auto)]
+
+mod discard;
+mod heads;
+pub mod laws;
+mod numerals;
+mod pieces;
+mod reading;
+mod takers;
+mod window;
+
+pub use discard::Discard;
+pub use numerals::{read_consts, read_numeral};
+pub use reading::{ReadingError, read_pattern, read_template};
+pub use takers::{RnaTaker, TakeError};

@@ -1,0 +1,5 @@
+pub mod Match
+pub mod Groups
+pub mod Found
+pub mod Step
+pub mod Laws

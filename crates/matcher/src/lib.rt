@@ -1,0 +1,14 @@
+//! Matching of a pattern's items.
+#![tactic(auto)]
+
+mod group_lists;
+pub mod laws;
+mod marks;
+mod matching;
+mod passing;
+
+pub use group_lists::GroupList;
+pub use matching::{MatchEnd, match_at};
+
+#[cfg(test)]
+mod tests;

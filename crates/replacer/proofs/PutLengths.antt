@@ -1,0 +1,33 @@
+-- Lengths of numbers and of quoted ranges.
+use Rattle.std.proofs.Common.{◌≡◌, ℕ, ◌+◌, ◌-◌, ◌/◌, ◌^◌, ◌<◌, ◌≤◌, List, [], ◌∷◌, ◌++◌, length, take, drop, slice_range, arith, refl, sym, ap, ◌∙◌, append-nil}
+use Rattle.fuun_base.specs.declared.letters.Base.{Base}
+use Rattle.fuun_base.specs.Quote.{protect, asnat}
+use Rattle.fuun_base.proofs.AsnatLemmas.{asnat-zero, asnat-digit, length-asnat_le}
+use Rattle.fuun_base.proofs.QuoteLemmas.{protect_of-nil}
+use Rattle.strand.proofs.Levels.{protect_zero, protect_of_none}
+use Rattle.strand.proofs.Ranges.{length-range}
+
+pub length_of_zero : (n : ℕ) → n ≡ 0 → length (asnat n) ≡ 1
+length_of_zero n zero = ap (λ m. length (asnat m)) zero ∙ ap length asnat-zero
+
+pub length_of_digit : (n : ℕ) → 0 < n → length (asnat n) ≡ length (asnat (n / 2)) + 1
+length_of_digit n some = omega (arith, ap length (asnat-digit n some))
+
+pub length_of_word : (n : ℕ) → n < 2 ^ 64 → length (asnat n) ≤ 65
+length_of_word n fits = length-asnat_le 64 n fits
+
+-- a range that is put as it stands has its own length
+pub length_of_plain : (d text : List Base) (lo hi level : ℕ) → level ≡ 0 → hi ≤ length d → slice_range d lo hi ≡ text → hi - lo ≡ length (protect level text)
+length_of_plain d text lo hi level plain within here =
+    sym (length-range d lo hi within) ∙ ap length here ∙ sym (ap length (protect_zero text)) ∙ ap (λ n. length (protect n text)) (sym plain)
+
+-- an empty range puts nothing, whatever the level
+pub nothing_put : (front d : List Base) (lo hi level : ℕ) → lo ≡ hi → hi ≤ length d → front ≡ front ++ protect level (slice_range d lo hi)
+nothing_put front d lo hi level same within =
+    let none : length (slice_range d lo hi) ≡ 0 = omega (arith, length-range d lo hi within) in
+    let empty : slice_range d lo hi ≡ [] = nil_of (slice_range d lo hi) none in
+    sym (append-nil front) ∙ ap (λ e. front ++ e) (sym (ap (protect level) empty ∙ protect_of-nil level))
+  where
+    nil_of : (e : List Base) → length e ≡ 0 → e ≡ []
+    nil_of [] none = refl
+    nil_of (b ∷ e) none = absurd (omega arith)

@@ -1,0 +1,110 @@
+ghost use Rattle.std.specs.Prelude.{◌≡◌, ◌+◌, ◌≤◌, ◌^◌, ◌∷◌, [], ◌++◌, length, slice_range, All, IfOk};
+ghost use Rattle.fuun_base.specs.Quote.{asnat, protect};
+ghost use Rattle.matcher.specs.Found.{LiesWithin};
+ghost use Rattle.replacer.specs.Replacement.{put_by, texts_of};
+
+use crate::ranges::range_of;
+use dna_items::TplItem;
+use fuun_base::{Base, NoMemory, Steps, asnat_into};
+use matcher::GroupList;
+use std::alloc::Global;
+use std::sync::ledger::Ledger;
+use strand::Strand;
+
+// What stands of the new DNA: a strand, and the bases behind it that wait for the next build.
+#[derive(Drop)]
+pub(crate) struct Front<S: Strand> {
+    pub(crate) done: S,
+    pub(crate) waiting: Vec<Base>,
+}
+
+impl<S: Strand> Front<S> {
+    pub(crate) fn new(alloc: Global) -> Self
+        ensures { S.bases result.done ++ result.waiting.items ≡ [] }
+    {
+        Front {
+            done: S::empty(alloc),
+            waiting: Vec::new(alloc),
+        }
+    }
+
+    // What the item puts comes behind what stands.
+    pub(crate) fn put<L: Ledger>(
+        self,
+        alloc: Global,
+        s: &S,
+        groups: &GroupList,
+        item: &TplItem,
+        steps: &mut Steps<L>,
+    ) -> Result<Self, NoMemory>
+        requires groups { All (LiesWithin (length (S.bases s.now))) groups.now }
+        requires small { length (S.bases self.done ++ self.waiting.items)
+            + length (put_by (texts_of (S.bases s.now) groups.now) item.now) ≤ 2 ^ 40 }
+        ensures { IfOk result (λ front. S.bases front.done ++ front.waiting.items
+            ≡ (S.bases self.done ++ self.waiting.items) ++ put_by (texts_of (S.bases s.now) groups.now) item.now) }
+    {
+        match *item {
+            TplItem::Base(base) => self.put_base(base),
+            TplItem::Group { n, level } => self.put_group(alloc, s, range_of(groups, n), level, steps),
+            TplItem::Len(n) => self.put_len(s, range_of(groups, n)),
+        }
+    }
+
+    fn put_base(self, base: Base) -> Result<Self, NoMemory>
+        ensures { IfOk result (λ front. S.bases front.done ++ front.waiting.items
+            ≡ (S.bases self.done ++ self.waiting.items) ++ base ∷ []) }
+    {
+        let mut front = self;
+        front.waiting.push(base)?;
+        Ok(front)
+    }
+
+    fn put_len(self, s: &S, range: (u64, u64)) -> Result<Self, NoMemory>
+        requires { LiesWithin (length (S.bases s.now)) range }
+        ensures { IfOk result (λ front. S.bases front.done ++ front.waiting.items
+            ≡ (S.bases self.done ++ self.waiting.items) ++ asnat (length (slice_range (S.bases s.now) range.0 range.1))) }
+    {
+        let (lo, hi) = range;
+        let mut front = self;
+        asnat_into(hi - lo, &mut front.waiting)?;
+        Ok(front)
+    }
+
+    fn put_group<L: Ledger>(
+        self,
+        alloc: Global,
+        s: &S,
+        range: (u64, u64),
+        level: u64,
+        steps: &mut Steps<L>,
+    ) -> Result<Self, NoMemory>
+        requires range { LiesWithin (length (S.bases s.now)) range }
+        requires small { length (S.bases self.done ++ self.waiting.items)
+            + length (protect level (slice_range (S.bases s.now) range.0 range.1)) ≤ 2 ^ 40 }
+        ensures { IfOk result (λ front. S.bases front.done ++ front.waiting.items
+            ≡ (S.bases self.done ++ self.waiting.items) ++ protect level (slice_range (S.bases s.now) range.0 range.1)) }
+    {
+        let (lo, hi) = range;
+        if lo == hi {
+            return Ok(self);
+        }
+        let done = self.joined(alloc, steps)?;
+        let part = s.quoted(lo, hi, level, steps)?;
+        Ok(Front {
+            done: S::join(&done, &part, steps)?,
+            waiting: Vec::new(alloc),
+        })
+    }
+
+    // The strand of all that stands.
+    pub(crate) fn joined<L: Ledger>(self, alloc: Global, steps: &mut Steps<L>) -> Result<S, NoMemory>
+        requires { length (S.bases self.done ++ self.waiting.items) ≤ 2 ^ 40 }
+        ensures { IfOk result (λ strand. S.bases strand ≡ S.bases self.done ++ self.waiting.items) }
+    {
+        if self.waiting.len() == 0 {
+            return Ok(self.done);
+        }
+        let waiting = S::build(alloc, self.waiting.as_slice(), steps)?;
+        S::join(&self.done, &waiting, steps)
+    }
+}

@@ -1,0 +1,38 @@
+ghost use Rattle.std.specs.Prelude.{◌≡◌, ◌≤◌, ◌^◌, length, All, IfOk};
+ghost use Rattle.matcher.specs.Found.{LiesWithin};
+ghost use Rattle.replacer.specs.Replacement.{replacement, texts_of, replaced};
+
+use crate::fronts::Front;
+use dna_items::TplList;
+use fuun_base::{NoMemory, Steps};
+use matcher::GroupList;
+use std::alloc::Global;
+use std::sync::ledger::Ledger;
+use strand::Strand;
+
+/// The DNA after the replacement, which has at most 2^40 bases: what the template puts, and then the bases from `stop` on.
+pub fn replace<S: Strand, L: Ledger>(alloc: Global, s: &S, tpl: &TplList, groups: &GroupList, stop: u64, steps: &mut Steps<L>) -> Result<S, NoMemory>
+    requires stop { stop ≤ length (S.bases s.now) }
+    requires groups { All (LiesWithin (length (S.bases s.now))) groups.now }
+    requires small { length (replaced (S.bases s.now) tpl.now groups.now stop) ≤ 2 ^ 40 }
+    ensures bases { IfOk result (λ dna. S.bases dna ≡ replaced (S.bases s.now) tpl.now groups.now stop) }
+    ensures length { IfOk result (λ dna. length (S.bases dna) ≤ 2 ^ 40) }
+    ensures height { IfOk result (λ dna. S.height dna ≤ S.height_bound (length (S.bases dna))) }
+{
+    let put = put_all(alloc, s, tpl, groups, steps)?;
+    let rest = s.sub(stop, s.len(), steps)?;
+    S::join(&put, &rest, steps)
+}
+
+// The strand of what the template puts.
+fn put_all<S: Strand, L: Ledger>(alloc: Global, s: &S, tpl: &TplList, groups: &GroupList, steps: &mut Steps<L>) -> Result<S, NoMemory>
+    requires groups { All (LiesWithin (length (S.bases s.now))) groups.now }
+    requires small { length (replacement (texts_of (S.bases s.now) groups.now) tpl.now) ≤ 2 ^ 40 }
+    ensures { IfOk result (λ dna. S.bases dna ≡ replacement (texts_of (S.bases s.now) groups.now) tpl.now) }
+{
+    let mut front = Front::new(alloc);
+    for item in tpl.as_slice() {
+        front = front.put(alloc, s, groups, item, steps)?;
+    }
+    front.joined(alloc, steps)
+}

@@ -1,0 +1,11 @@
+//! Ropes: lists of bases as balanced trees of shared nodes, which are joined and cut in few steps.
+#![tactic(auto)]
+
+mod build;
+mod cut;
+mod join;
+mod rope;
+#[cfg(test)]
+mod tests;
+
+pub use rope::Rope;
