@@ -1,3 +1,4 @@
 pub mod Buckets
+pub mod Lending
 pub mod Pixels
 pub mod Tally

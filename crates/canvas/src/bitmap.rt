@@ -8,7 +8,8 @@ use fuun_base::NoMemory;
 use std::alloc::Global;
 use std::marker::Model;
 
-/// A bitmap of `SIDE` times `SIDE` pixels, `SIDE` from 1 to 1024: rows from the north, each from the west.
+/// A bitmap of `SIDE` times `SIDE` pixels, `SIDE` from 1 to 1024: rows from the north, each from
+/// the west.
 #[derive(Drop)]
 pub struct Bitmap<const SIDE: usize> {
     pixels: Vec<Pixel>,
@@ -26,6 +27,9 @@ impl<const SIDE: usize> Model for Bitmap<SIDE> {
 }
 
 impl<const SIDE: usize> Bitmap<SIDE> {
+    ghost use Rattle.std.specs.Borrow.{sem};
+    ghost use Rattle.canvas.specs.Lending.{LendsPixels};
+
     /// The bitmap that is transparent everywhere. It takes all its memory here.
     pub fn new(alloc: Global) -> Result<Bitmap<SIDE>, NoMemory>
         requires { (1 ≤ SIDE) × (SIDE ≤ 1024) }
@@ -69,6 +73,15 @@ impl<const SIDE: usize> Bitmap<SIDE> {
         ensures square { IsSquare SIDE self.now }
     {
         &self.pixels
+    }
+
+    /// All pixels, to be written: rows from the north, each from the west.
+    pub fn pixels_mut(&mut self) -> &mut [Pixel]
+        ensures* writes_back { sem 𝓛 (LendsPixels SIDE self.entry result) }
+        ensures value { result.now ≡ self.old }
+        ensures square { IsSquare SIDE self.old }
+    {
+        self.pixels.as_mut_slice()
     }
 
     /// The pixels of a row, from the west.

@@ -72,8 +72,9 @@ impl Bucket {
         *self = Bucket::new();
     }
 
-    /// The current pixel: the average colour, or black where there is none, under the average alpha, or 255 where there is
-    /// none. Both averages are rounded down, and so is each colour times the alpha, divided by 255.
+    /// The current pixel: the average colour, or black where there is none, under the average
+    /// alpha, or 255 where there is none. The averages are rounded down, and so is each colour times
+    /// the alpha, divided by 255.
     pub fn pixel(&self) -> Pixel
         ensures { result ≡ pixel_of self.now }
     {

@@ -1,4 +1,5 @@
-//! Which inks a bucket has been given. Only proofs read it: it takes no memory, and its calls do nothing.
+//! Which inks a bucket has been given. Only proofs read it: it takes no memory, and its calls do
+//! nothing.
 
 ghost use Rattle.std.specs.Prelude.{◌≡◌, List, [], ◌∷◌, ◌++◌};
 ghost use Rattle.std.specs.Borrow.{ftrue};

@@ -38,7 +38,8 @@ impl Model for Pixel {
 impl Pixel {
     /// The pixel of these channels, or `None` where a colour is above the alpha.
     pub fn new(r: u8, g: u8, b: u8, a: u8) -> Option<Pixel>
-        ensures { let p : Rgba = record { red = r; green = g; blue = b; alpha = a } in SomeIff result (IsPremultiplied p) p }
+        ensures { let p : Rgba = record { red = r; green = g; blue = b; alpha = a } in
+            SomeIff result (IsPremultiplied p) p }
     {
         if r <= a && g <= a && b <= a {
             Some(Pixel { r, g, b, a })

@@ -3,4 +3,5 @@ pub mod Counting
 pub mod OccurrenceLemmas
 pub mod QuoteLemmas
 pub mod Reading
+pub mod RnaLines
 pub mod Writing

@@ -7,5 +7,6 @@ pub mod Tally
 pub mod TallyLaws
 pub mod Ticks
 pub mod DnaFile
+pub mod RnaFile
 pub mod Command
 pub mod Padding

@@ -8,6 +8,7 @@ pub mod laws;
 mod letters;
 mod lists;
 mod quoting;
+mod rna_file;
 mod tally;
 
 pub use commands::Command;
@@ -16,6 +17,7 @@ pub use dna_file::{DnaError, read_dna};
 pub use letters::Base;
 pub use lists::{BaseList, CommandList, NoMemory};
 pub use quoting::{asnat_into, quote_into};
+pub use rna_file::{RnaError, read_rna};
 pub use tally::Tally;
 
 #[cfg(test)]

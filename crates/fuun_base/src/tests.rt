@@ -51,6 +51,49 @@ fn dna_files_hold_letters_alone(rt: HostRuntime) -> Result<(), Fail> {
     Ok(())
 }
 
+// The letters of some commands, each with a full stop behind it.
+fn letters_of(alloc: Global, list: &CommandList) -> Result<String, Fail> {
+    let mut text = String::new(alloc);
+    for command in list.as_slice() {
+        let mut letters = [0; 7];
+        let len = command.letters(&mut letters);
+        for letter in letters[..len].iter() {
+            text.push(char::from(*letter))?;
+        }
+        text.push('.')?;
+    }
+    Ok(text)
+}
+
+#[test]
+fn rna_files_hold_a_command_a_line(rt: HostRuntime) -> Result<(), Fail> {
+    for (text, commands) in [
+        ("", ""),
+        ("\n", "."),
+        ("PIPIIIC", "PIPIIIC."),
+        ("PIPIIIC\n", "PIPIIIC."),
+        ("PIPIIIC\nPPP\n\n", "PIPIIIC.PPP.."),
+        ("\nPPP", ".PPP."),
+        (" P\tI\r\n \nC", "PI..C."),
+        ("P\n ", "P.."),
+    ] {
+        let list = read_rna(rt.alloc(), text.as_bytes())?;
+        let letters = letters_of(rt.alloc(), &list)?;
+        assert_eq!(rt; letters.as_str(), commands, "at {text:?}");
+    }
+    for (text, line) in [
+        ("PIPIIIC\nPIPIIICP\n", 2),
+        ("PIPIIICP", 1),
+        ("P\n\nIx\nPIPIIICP", 3),
+        ("p", 1),
+        ("PIPIIIC \n P I P I I I C P", 2),
+    ] {
+        let refused = read_rna(rt.alloc(), text.as_bytes()).err();
+        assert_eq!(rt; refused, Some(RnaError::BadRna { line }), "at {text:?}");
+    }
+    Ok(())
+}
+
 #[test]
 fn quotes_are_appended(rt: HostRuntime) -> Result<(), Fail> {
     let mut out = Vec::new(rt.alloc());

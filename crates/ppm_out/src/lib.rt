@@ -16,8 +16,8 @@ const BATCH: usize = 1024;
 
 const BATCH_BYTES: usize = 3072;
 
-/// Writes a bitmap as a picture: each pixel's red, green and blue, whatever its alpha. After an error a front of the file is
-/// written.
+/// Writes a bitmap as a picture: each pixel's red, green and blue, whatever its alpha. After an error
+/// a front of the file is written.
 pub fn write_ppm<const SIDE: usize, S: Sink>(
     bitmap: &Bitmap<SIDE>,
     sink: &mut S,

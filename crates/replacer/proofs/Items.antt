@@ -1,5 +1,5 @@
 -- What the items of a template put, one after another.
-use Rattle.std.proofs.Common.{◌≡◌, ℕ, ◌+◌, ◌-◌, ◌<◌, ◌≤◌, List, [], ◌∷◌, ◌++◌, length, take, drop, get_or, map, arith, refl, sym, ap, ◌∙◌, length-append, length-drop}
+use Rattle.std.proofs.Common.{◌≡◌, ℕ, ◌+◌, ◌-◌, ◌<◌, ◌≤◌, List, [], ◌++◌, length, drop, get_or, arith, ap, ◌∙◌, length-append, length-drop}
 use Rattle.std.proofs.lemmas.List.{drop_more, drop_all}
 use Rattle.fuun_base.specs.declared.letters.Base.{Base}
 use Rattle.dna_items.specs.declared.items.TplItem.{TplItem}

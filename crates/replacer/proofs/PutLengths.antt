@@ -1,10 +1,10 @@
 -- Lengths of numbers and of quoted ranges.
-use Rattle.std.proofs.Common.{◌≡◌, ℕ, ◌+◌, ◌-◌, ◌/◌, ◌^◌, ◌<◌, ◌≤◌, List, [], ◌∷◌, ◌++◌, length, take, drop, slice_range, arith, refl, sym, ap, ◌∙◌, append-nil}
+use Rattle.std.proofs.Common.{◌≡◌, ℕ, ◌+◌, ◌-◌, ◌/◌, ◌^◌, ◌<◌, ◌≤◌, List, [], ◌∷◌, ◌++◌, length, slice_range, arith, refl, sym, ap, ◌∙◌, append-nil}
 use Rattle.fuun_base.specs.declared.letters.Base.{Base}
 use Rattle.fuun_base.specs.Quote.{protect, asnat}
 use Rattle.fuun_base.proofs.AsnatLemmas.{asnat-zero, asnat-digit, length-asnat_le}
 use Rattle.fuun_base.proofs.QuoteLemmas.{protect_of-nil}
-use Rattle.strand.proofs.Levels.{protect_zero, protect_of_none}
+use Rattle.strand.proofs.Levels.{protect_zero}
 use Rattle.strand.proofs.Ranges.{length-range}
 
 pub length_of_zero : (n : ℕ) → n ≡ 0 → length (asnat n) ≡ 1

@@ -1,1 +1,2 @@
 pub mod Replacement
+pub mod Worked

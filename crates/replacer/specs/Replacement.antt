@@ -1,5 +1,5 @@
 -- The replacement that a template makes of the texts of groups.
-use Rattle.std.specs.Prelude.{ℕ, ◌+◌, ◌-◌, List, [], ◌∷◌, ◌++◌, map, length, drop, unwrap_or, slice_get, slice_range}
+use Rattle.std.specs.Prelude.{ℕ, List, [], ◌∷◌, ◌++◌, map, length, drop, unwrap_or, slice_get, slice_range}
 use Rattle.std.specs.List.{flat_map}
 use Rattle.fuun_base.specs.declared.letters.Base.{Base}
 use Rattle.fuun_base.specs.Quote.{protect, asnat}

@@ -45,7 +45,13 @@ impl<S: Strand> Front<S> {
     {
         match *item {
             TplItem::Base(base) => self.put_base(base),
-            TplItem::Group { n, level } => self.put_group(alloc, s, range_of(groups, n), level, steps),
+            TplItem::Group { n, level } => self.put_group(
+                alloc,
+                s,
+                range_of(groups, n),
+                level,
+                steps,
+            ),
             TplItem::Len(n) => self.put_len(s, range_of(groups, n)),
         }
     }
@@ -97,7 +103,11 @@ impl<S: Strand> Front<S> {
     }
 
     // The strand of all that stands.
-    pub(crate) fn joined<L: Ledger>(self, alloc: Global, steps: &mut Steps<L>) -> Result<S, NoMemory>
+    pub(crate) fn joined<L: Ledger>(
+        self,
+        alloc: Global,
+        steps: &mut Steps<L>,
+    ) -> Result<S, NoMemory>
         requires { length (S.bases self.done ++ self.waiting.items) ≤ 2 ^ 40 }
         ensures { IfOk result (λ strand. S.bases strand ≡ S.bases self.done ++ self.waiting.items) }
     {

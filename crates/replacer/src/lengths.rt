@@ -9,7 +9,13 @@ use matcher::GroupList;
 use strand::Strand;
 
 /// How many bases the DNA has after the replacement: None exactly where they are more than the limit.
-pub fn replaced_len<S: Strand>(s: &S, tpl: &TplList, groups: &GroupList, stop: u64, limit: u64) -> Option<u64>
+pub fn replaced_len<S: Strand>(
+    s: &S,
+    tpl: &TplList,
+    groups: &GroupList,
+    stop: u64,
+    limit: u64,
+) -> Option<u64>
     requires stop { stop ≤ length (S.bases s.now) }
     requires groups { All (LiesWithin (length (S.bases s.now))) groups.now }
     requires limit { limit ≤ 2 ^ 40 }

@@ -2,9 +2,13 @@
 #![tactic(auto)]
 
 mod fronts;
+pub mod laws;
 mod lengths;
 mod ranges;
 mod replacing;
 
 pub use lengths::replaced_len;
 pub use replacing::replace;
+
+#[cfg(test)]
+mod tests;

@@ -11,7 +11,14 @@ use std::sync::ledger::Ledger;
 use strand::Strand;
 
 /// The DNA after the replacement, which has at most 2^40 bases: what the template puts, and then the bases from `stop` on.
-pub fn replace<S: Strand, L: Ledger>(alloc: Global, s: &S, tpl: &TplList, groups: &GroupList, stop: u64, steps: &mut Steps<L>) -> Result<S, NoMemory>
+pub fn replace<S: Strand, L: Ledger>(
+    alloc: Global,
+    s: &S,
+    tpl: &TplList,
+    groups: &GroupList,
+    stop: u64,
+    steps: &mut Steps<L>,
+) -> Result<S, NoMemory>
     requires stop { stop ≤ length (S.bases s.now) }
     requires groups { All (LiesWithin (length (S.bases s.now))) groups.now }
     requires small { length (replaced (S.bases s.now) tpl.now groups.now stop) ≤ 2 ^ 40 }
@@ -25,7 +32,13 @@ pub fn replace<S: Strand, L: Ledger>(alloc: Global, s: &S, tpl: &TplList, groups
 }
 
 // The strand of what the template puts.
-fn put_all<S: Strand, L: Ledger>(alloc: Global, s: &S, tpl: &TplList, groups: &GroupList, steps: &mut Steps<L>) -> Result<S, NoMemory>
+fn put_all<S: Strand, L: Ledger>(
+    alloc: Global,
+    s: &S,
+    tpl: &TplList,
+    groups: &GroupList,
+    steps: &mut Steps<L>,
+) -> Result<S, NoMemory>
     requires groups { All (LiesWithin (length (S.bases s.now))) groups.now }
     requires small { length (replacement (texts_of (S.bases s.now) groups.now) tpl.now) ≤ 2 ^ 40 }
     ensures { IfOk result (λ dna. S.bases dna ≡ replacement (texts_of (S.bases s.now) groups.now) tpl.now) }

@@ -132,6 +132,12 @@ impl Strand for FlatStrand {
         let _steps = steps;
         let left = a.as_slice();
         let right = b.as_slice();
+        if left.len() == 0 {
+            return b.share();
+        }
+        if right.len() == 0 {
+            return a.share();
+        }
         let mut joined = Vec::with_capacity(a.alloc, left.len() + right.len())?;
         joined.extend_from_slice(left)?;
         joined.extend_from_slice(right)?;

@@ -1,4 +1,4 @@
-use Rattle.std.proofs.Common.{◌≡◌, ◌-◌, ◌≤◌, length, arith, ap}
+use Rattle.std.proofs.Common.{◌≡◌, ◌-◌, length, arith, ap}
 use Rattle.fuun_base.specs.Quote.{protect}
 use Rattle.fuun_base.specs.Tally.{tally_total}
 use Rattle.strand.proofs.Ranges.{tally_total-range}

@@ -1,4 +1,4 @@
-use Rattle.std.proofs.Common.{◌≡◌, arith}
+use Rattle.std.proofs.Common.{arith}
 use Rattle.replacer.proofs.PutLengths.{length_of_zero, length_of_digit, length_of_word}
 use Rattle.replacer.proofs.lengths.number_bases.Goals as goal
 

@@ -1,4 +1,4 @@
-use Rattle.std.proofs.Common.{◌≡◌, ◌++◌, arith}
+use Rattle.std.proofs.Common.{◌++◌}
 use Rattle.replacer.proofs.PutLengths.{nothing_put}
 use Rattle.replacer.proofs.fronts.Front.put_group.Goals as goal
 

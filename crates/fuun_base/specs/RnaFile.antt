@@ -1,0 +1,39 @@
+-- What an RNA file stands for.
+use Rattle.std.specs.Prelude.{ℕ, ◌==◌, ◌&&◌, ◌||◌, if◌then◌else◌, Bool, List, [], ◌∷◌, Option, length, map, not, is_some, nat_le}
+use Rattle.std.specs.List.{list_all, filter_map, position_from}
+use Rattle.fuun_base.specs.declared.letters.Base.{Base}
+use Rattle.fuun_base.specs.Letter.{base_of}
+
+-- space, tab and carriage return
+abbrev pub is_blank : ℕ → Bool
+is_blank byte = byte == 32 || (byte == 9 || byte == 13)
+
+-- a byte before the lines that follow it
+abbrev pub before_lines : ℕ → List (List ℕ) → List (List ℕ)
+before_lines byte [] = (byte ∷ []) ∷ []
+before_lines byte (line ∷ more) = (byte ∷ line) ∷ more
+
+-- the lines of a file: a line feed ends each, and bytes after the last line feed are a line too
+abbrev pub lines : List ℕ → List (List ℕ)
+lines [] = []
+lines (byte ∷ bytes) = if byte == 10 then [] ∷ lines bytes else before_lines byte (lines bytes)
+
+-- the command of a line: the bases of its letters, in order
+abbrev pub command_of : List ℕ → List Base
+command_of line = filter_map base_of line
+
+-- a byte is a letter of a base or a blank
+abbrev pub is_allowed : ℕ → Bool
+is_allowed byte = is_some (base_of byte) || is_blank byte
+
+-- a line holds at most seven letters, and blanks
+abbrev pub is_command : List ℕ → Bool
+is_command line = list_all is_allowed line && nat_le (length (command_of line)) 7
+
+-- the commands of an RNA file, one a line
+abbrev pub commands : List ℕ → List (List Base)
+commands bytes = map command_of (lines bytes)
+
+-- the first line, counted from 1, that is no command
+abbrev pub first_bad : List ℕ → Option ℕ
+first_bad bytes = position_from (λ line. not (is_command line)) 1 (lines bytes)

@@ -1,0 +1,3 @@
+pub mod Layers
+pub mod Lending
+pub mod Stack

@@ -1,0 +1,7 @@
+use Rattle.replacer.proofs.tests.templates_are_put.Given as goal
+
+abbrev pub ghosts-put_items : goal.ghosts-put_items
+ghosts-put_items g a = record { name = a.blank.name; parts = a.blank.parts }
+
+abbrev pub ghosts-keep_limits : goal.ghosts-keep_limits
+ghosts-keep_limits g a = record { name = a.blank.name; parts = a.blank.parts }
