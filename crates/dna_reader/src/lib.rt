@@ -14,3 +14,6 @@ pub use discard::Discard;
 pub use numerals::{read_consts, read_numeral};
 pub use reading::{ReadingError, read_pattern, read_template};
 pub use takers::{RnaTaker, TakeError};
+
+#[cfg(test)]
+mod tests;

@@ -1,5 +1,5 @@
 // The pieces of patterns and templates.
-ghost use Rattle.std.specs.Prelude.{◌≡◌, ◌+◌, ◌≤◌, List, take, drop, length, IfOk, MatchOption, min};
+ghost use Rattle.std.specs.Prelude.{◌≡◌, ◌+◌, ◌≤◌, Bool, List, take, drop, length, IfOk, MatchOption, min};
 ghost use Rattle.fuun_base.specs.declared.letters.Base.{Base};
 ghost use Rattle.dna_items.specs.Held.{held_pattern_item, held_template_item};
 ghost use Rattle.dna_reader.specs.Front.{head_of, letters_of};
@@ -58,16 +58,15 @@ fn command_ahead(window: &mut Window) -> Command
 }
 
 /// The skip of the numeral behind IP.
-fn skip_ahead<S: Strand>(s: &S, window: &mut Window, is_open: bool) -> Option<PatternPiece>
+fn skip_ahead<S: Strand>(s: &S, window: &mut Window) -> Option<PatternPiece>
     requires shows { Shows window.old (S.bases s.now) }
     requires letters { 2 ≤ length window.old.ahead }
     requires head { head_of (drop window.old.place (S.bases s.now)) ≡ Head.Ip }
     ensures shows { Shows window.new (S.bases s.now) }
-    ensures piece { MatchOption result
+    ensures piece { (is_open : Bool) → MatchOption result
         (pattern_piece is_open (drop window.old.place (S.bases s.now)) ≡ None)
         (λ piece. PieceIsRead (pattern_piece is_open) held_pattern_item (S.bases s.now) window.old.place (pattern_gives piece) window.new.place) }
 {
-    let _is_open = is_open;
     window.pass(2);
     let n = numeral_ahead(s, window)?;
     Some(PatternPiece::Item(PatItem::Skip(n)))
@@ -78,16 +77,14 @@ fn search_ahead<S: Strand>(
     alloc: Global,
     s: &S,
     window: &mut Window,
-    is_open: bool,
 ) -> Result<PatternPiece, NoMemory>
     requires shows { Shows window.old (S.bases s.now) }
     requires enough { min 10 (length (drop window.old.place (S.bases s.now))) ≤ length window.old.ahead }
     requires head { head_of (drop window.old.place (S.bases s.now)) ≡ Head.If }
     ensures shows { Shows window.new (S.bases s.now) }
-    ensures piece { IfOk result (λ piece.
+    ensures piece { (is_open : Bool) → IfOk result (λ piece.
         PieceIsRead (pattern_piece is_open) held_pattern_item (S.bases s.now) window.old.place (pattern_gives piece) window.new.place) }
 {
-    let _is_open = is_open;
     let letters = window.ahead().len().min(3);
     window.pass(letters);
     let constants = constants_ahead(alloc, s, window)?;
@@ -123,8 +120,8 @@ pub fn pattern_ahead<S: Strand>(
             window.pass(letters);
             Ok(Some(PatternPiece::Item(PatItem::Base(base))))
         }
-        Head::Ip => Ok(skip_ahead(s, window, is_open)),
-        Head::If => Ok(Some(search_ahead(alloc, s, window, is_open)?)),
+        Head::Ip => Ok(skip_ahead(s, window)),
+        Head::If => Ok(Some(search_ahead(alloc, s, window)?)),
         Head::Iip => {
             window.pass(3);
             Ok(Some(PatternPiece::Item(PatItem::GroupStart)))

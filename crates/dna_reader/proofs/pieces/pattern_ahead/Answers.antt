@@ -29,3 +29,6 @@ pub returns-in-Iii-clause-piece : goal.returns-in-Iii-clause-piece
 returns-in-Iii-clause-piece g c =
     pattern_command_read c.args.is_open (g.S.Strand.bases c.args.s.now) c.head_ahead.new.window c.args.window.now.place c.command_ahead.new.window.place c.command_ahead.result
     (sym c.in-Iii.ensures.head) c.in-Iii.ensures.shows c.in-Iii.ensures.place c.in-Iii.ensures.letters c.in-Iii.ensures.enough c.command_ahead.ensures.command c.command_ahead.ensures.place
+
+pub returns-in_ok-search_ahead-in-If-clause-piece : goal.returns-in_ok-search_ahead-in-If-clause-piece
+returns-in_ok-search_ahead-in-If-clause-piece g c = rw c.in-If.ensures.place at (c.in_ok-search_ahead-in-If.ensures.piece c.args.is_open)

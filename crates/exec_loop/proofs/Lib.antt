@@ -1,0 +1,9 @@
+pub mod Matches
+pub mod Grouping
+pub mod Attempts
+pub mod Runs
+pub mod HeldItems
+pub mod Lifting
+pub mod Parts
+pub mod RunSteps
+pub mod Worked

@@ -1,0 +1,192 @@
+-- A pattern has one match on a DNA at most, and it is decided whether it has one.
+use Rattle.std.proofs.Common.{◌≡◌, ℕ, zero, suc, ◌+◌, ◌<◌, ◌≤◌, ◌⊎◌, inl, inr, Option, Some, None, List, [], ◌∷◌, length, arith, refl, sym, ap, subst, ◌∙◌}
+use Rattle.std.specs.Prelude.{slice_get, slice_range}
+use Rattle.std.proofs.lemmas.Bool.{cases_lt, cases_order, cases_eq}
+use Rattle.std.proofs.lemmas.Option.{none-some, same_Some}
+use Rattle.fuun_base.specs.declared.letters.Base.{Base}
+use Rattle.fuun_base.specs.declared.letters.Base.TheVariants.{I, C, F, P}
+use Rattle.fuun_base.specs.Occurrence.{Stands, IsFirst, IsAbsent}
+use Rattle.dna_items.specs.declared.items.PatItem.{PatItem}
+use Rattle.dna_items.specs.declared.items.PatItem.TheVariants.{Base as Literal, Skip, Search, GroupStart, GroupStop}
+use Rattle.matcher.specs.Match.{Leads, LeadThrough, IsMatch, last_place, HasNoMatch}
+
+-- an item leads from a place to one place at most
+
+pub first_is_one : (s d : List Base) (from a b : ℕ) → IsFirst s d from a → IsFirst s d from b → a ≡ b
+first_is_one s d from a b x y =
+    elim (cases_order a b) [
+      | inl same ↦ same
+      | inr (inl before) ↦ absurd (y.least a x.after before x.stands)
+      | inr (inr after) ↦ absurd (x.least b y.after after y.stands)
+    ]
+
+pub leads_to_one : (d : List Base) (item : PatItem) (i j k : ℕ) → Leads d item i j → Leads d item i k → j ≡ k
+leads_to_one d (Literal b) i j k x y = x.1 ∙ sym y.1
+leads_to_one d (Skip n) i j k x y = x.0 ∙ sym y.0
+leads_to_one d (Search s) i j k x y = x.2 ∙ ap (λ n. n + length s) (first_is_one s d i x.0 y.0 x.1 y.1) ∙ sym y.2
+leads_to_one d GroupStart i j k x y = x ∙ sym y
+leads_to_one d GroupStop i j k x y = x ∙ sym y
+
+pub through_is_one : (d : List Base) (items : List PatItem) (i : ℕ) (a b : List ℕ) → LeadThrough d items i a → LeadThrough d items i b → a ≡ b
+through_is_one d [] i [] [] x y = refl
+through_is_one d [] i [] (k ∷ b) x y = absurd y
+through_is_one d [] i (j ∷ a) b x y = absurd x
+through_is_one d (item ∷ items) i [] b x y = absurd x
+through_is_one d (item ∷ items) i (j ∷ a) [] x y = absurd y
+through_is_one d (item ∷ items) i (j ∷ a) (k ∷ b) x y =
+    let same : j ≡ k = leads_to_one d item i j k x.0 y.0 in
+    let from_j : LeadThrough d items j b = subst (λ n. LeadThrough d items n b) (sym same) y.1 in
+    ap (λ n. n ∷ a) same ∙ ap (λ l. k ∷ l) (through_is_one d items j a b x.1 from_j)
+
+pub match_is_one : (d : List Base) (items : List PatItem) (a b : List ℕ) → IsMatch d items a → IsMatch d items b → a ≡ b
+match_is_one d items [] b x y = absurd x
+match_is_one d items (i ∷ a) [] x y = absurd y
+match_is_one d items (i ∷ a) (k ∷ b) x y =
+    let same : i ≡ k = x.0 ∙ sym y.0 in
+    let from_i : LeadThrough d items i b = subst (λ n. LeadThrough d items n b) (sym same) y.1 in
+    ap (λ n. n ∷ a) same ∙ ap (λ l. k ∷ l) (through_is_one d items i a b x.1 from_i)
+
+-- whether an item leads anywhere
+
+base_or : (a b : Base) → (a ≡ b) ⊎ (a ≡ b → ⊥)
+base_or I I = inl refl
+base_or I C = inr (λ e. cc)
+base_or I F = inr (λ e. cc)
+base_or I P = inr (λ e. cc)
+base_or C I = inr (λ e. cc)
+base_or C C = inl refl
+base_or C F = inr (λ e. cc)
+base_or C P = inr (λ e. cc)
+base_or F I = inr (λ e. cc)
+base_or F C = inr (λ e. cc)
+base_or F F = inl refl
+base_or F P = inr (λ e. cc)
+base_or P I = inr (λ e. cc)
+base_or P C = inr (λ e. cc)
+base_or P F = inr (λ e. cc)
+base_or P P = inl refl
+
+bases_or : (a b : List Base) → (a ≡ b) ⊎ (a ≡ b → ⊥)
+bases_or [] [] = inl refl
+bases_or [] (y ∷ b) = inr (λ e. cc)
+bases_or (x ∷ a) [] = inr (λ e. cc)
+bases_or (x ∷ a) (y ∷ b) =
+    elim (base_or x y) [
+      | inl same ↦ elim (bases_or a b) [
+        | inl rest ↦ inl (ap (λ z. z ∷ a) same ∙ ap (λ l. y ∷ l) rest)
+        | inr other ↦ inr (λ e. other (cc))
+      ]
+      | inr other ↦ inr (λ e. other (cc))
+    ]
+
+base_at_or : (d : List Base) (i : ℕ) (b : Base) → (slice_get d i ≡ Some b) ⊎ (slice_get d i ≡ Some b → ⊥)
+base_at_or [] i b = inr (λ e. none-some b e)
+base_at_or (x ∷ d) zero b =
+    elim (base_or x b) [
+      | inl same ↦ inl (ap (λ z. Some z) same)
+      | inr other ↦ inr (λ e. other (same_Some x b e))
+    ]
+base_at_or (x ∷ d) (suc i) b = base_at_or d i b
+
+stands_or : (s d : List Base) (place : ℕ) → Stands s d place ⊎ (Stands s d place → ⊥)
+stands_or s d place =
+    elim (cases_lt (length d) (place + length s)) [
+      | inl past ↦ inr (λ (x : Stands s d place). let within : place + length s ≤ length d = x.within in omega arith)
+      | inr within ↦ elim (bases_or (slice_range d place (place + length s)) s) [
+        | inl there ↦ inl (record { within = within; there = there })
+        | inr other ↦ inr (λ x. other x.there)
+      ]
+    ]
+
+abbrev FirstBelow : List Base → List Base → ℕ → ℕ → Type 0
+FirstBelow s d from n = (place : ℕ) × IsFirst s d from place
+
+abbrev NoneBelow : List Base → List Base → ℕ → ℕ → Type 0
+NoneBelow s d from n = (place : ℕ) → from ≤ place → place < from + n → Stands s d place → ⊥
+
+none_more : (s d : List Base) (from n : ℕ) → NoneBelow s d from n → (Stands s d (from + n) → ⊥) → NoneBelow s d from (suc n)
+none_more s d from n none here place after before stands =
+    elim (cases_eq place (from + n)) [
+      | inl same ↦ here (subst (λ m. Stands s d m) same stands)
+      | inr other ↦ none place after (omega arith) stands
+    ]
+
+first_below : (s d : List Base) (from n : ℕ) → FirstBelow s d from n ⊎ NoneBelow s d from n
+first_below s d from zero = inr (λ place after before stands. absurd (omega arith))
+first_below s d from (suc n) =
+    elim (first_below s d from n) [
+      | inl found ↦ inl found
+      | inr none ↦ elim (stands_or s d (from + n)) [
+        | inl stands ↦ inl (from + n, record { after = omega arith; stands = stands; least = λ earlier after before there. none earlier after (omega arith) there })
+        | inr not ↦ inr (none_more s d from n none not)
+      ]
+    ]
+
+pub first_or_absent : (s d : List Base) (from : ℕ) → ((place : ℕ) × IsFirst s d from place) ⊎ IsAbsent s d from
+first_or_absent s d from =
+    elim (first_below s d from (suc (length d))) [
+      | inl found ↦ inl found
+      | inr none ↦ inr (λ place after (stands : Stands s d place). let within : place + length s ≤ length d = stands.within in none place after (omega arith) stands)
+    ]
+
+abbrev LeadsSomewhere : List Base → PatItem → ℕ → Type 0
+LeadsSomewhere d item i = (j : ℕ) × Leads d item i j
+
+abbrev LeadsNowhere : List Base → PatItem → ℕ → Type 0
+LeadsNowhere d item i = (j : ℕ) → Leads d item i j → ⊥
+
+leads_or : (d : List Base) (item : PatItem) (i : ℕ) → LeadsSomewhere d item i ⊎ LeadsNowhere d item i
+leads_or d (Literal b) i =
+    elim (base_at_or d i b) [
+      | inl there ↦ inl (i + 1, (there, refl))
+      | inr other ↦ inr (λ j leads. other leads.0)
+    ]
+leads_or d (Skip n) i =
+    elim (cases_lt (length d) (i + n)) [
+      | inl past ↦ inr (λ j leads. let e : j ≡ i + n = leads.0 in let within : j ≤ length d = leads.1 in omega arith)
+      | inr within ↦ inl (i + n, (refl, within))
+    ]
+leads_or d (Search s) i =
+    elim (first_or_absent s d i) [
+      | inl found ↦ inl (found.0 + length s, (found.0, found.1, refl))
+      | inr absent ↦ inr (λ j leads. absent leads.0 leads.1.after leads.1.stands)
+    ]
+leads_or d GroupStart i = inl (i, refl)
+leads_or d GroupStop i = inl (i, refl)
+
+abbrev ThroughSomewhere : List Base → List PatItem → ℕ → Type 0
+ThroughSomewhere d items i = (places : List ℕ) × LeadThrough d items i places
+
+abbrev ThroughNowhere : List Base → List PatItem → ℕ → Type 0
+ThroughNowhere d items i = (places : List ℕ) → LeadThrough d items i places → ⊥
+
+nowhere_first : (d : List Base) (item : PatItem) (items : List PatItem) (i : ℕ) → LeadsNowhere d item i → ThroughNowhere d (item ∷ items) i
+nowhere_first d item items i none [] x = x
+nowhere_first d item items i none (j ∷ places) x = none j x.0
+
+nowhere_then : (d : List Base) (item : PatItem) (items : List PatItem) (i j : ℕ) → Leads d item i j → ThroughNowhere d items j → ThroughNowhere d (item ∷ items) i
+nowhere_then d item items i j leads none [] x = x
+nowhere_then d item items i j leads none (k ∷ places) x =
+    none places (subst (λ n. LeadThrough d items n places) (leads_to_one d item i k j x.0 leads) x.1)
+
+through_or : (d : List Base) (items : List PatItem) (i : ℕ) → ThroughSomewhere d items i ⊎ ThroughNowhere d items i
+through_or d [] i = inl ([], tt)
+through_or d (item ∷ items) i =
+    elim (leads_or d item i) [
+      | inr none ↦ inr (nowhere_first d item items i none)
+      | inl here ↦ elim (through_or d items here.0) [
+        | inl further ↦ inl (here.0 ∷ further.0, (here.1, further.1))
+        | inr none ↦ inr (nowhere_then d item items i here.0 here.1 none)
+      ]
+    ]
+
+no_match : (d : List Base) (items : List PatItem) → ThroughNowhere d items 0 → HasNoMatch d items
+no_match d items none [] x = x
+no_match d items none (i ∷ places) x = none places (subst (λ n. LeadThrough d items n places) x.0 x.1)
+
+pub match_or_none : (d : List Base) (items : List PatItem) → ((places : List ℕ) × IsMatch d items places) ⊎ HasNoMatch d items
+match_or_none d items =
+    elim (through_or d items 0) [
+      | inl found ↦ inl (0 ∷ found.0, (refl, found.1))
+      | inr none ↦ inr (no_match d items none)
+    ]

@@ -1,0 +1,203 @@
+-- From the parts of an attempt to the whole.
+use Rattle.std.proofs.Common.{◌≡◌, ℕ, ◌+◌, ◌-◌, ◌^◌, ◌<◌, ◌≤◌, inl, inr, Option, Some, None, List, [], ◌++◌, length, drop, arith, refl, sym, ap, subst, ◌∙◌, append-nil}
+use Rattle.std.specs.Prelude.{unwrap_or, Result, Ok, Err, IfOk, OnErr}
+use Rattle.std.specs.Option.{option_map}
+use Rattle.std.proofs.lemmas.List.{length-map}
+use Rattle.fuun_base.specs.declared.letters.Base.{Base}
+use Rattle.dna_items.specs.declared.items.PatItem.{PatItem}
+use Rattle.dna_items.specs.declared.items.TplItem.{TplItem}
+use Rattle.dna_items.specs.Held.{held_pattern_item, held_pattern, held_template}
+use Rattle.dna_reader.specs.Reading.{rna_in}
+use Rattle.dna_reader.specs.Tables.{ReadsPattern, ReadsTemplate}
+use Rattle.dna_reader.specs.Taking.{PatternIsRead, TemplateIsRead, RanOutTaking, StandsWithin}
+use Rattle.matcher.specs.Found.{MatchesAt}
+use Rattle.replacer.specs.Replacement.{replaced}
+use Rattle.exec_loop.specs.declared.machine.Outcome.{Outcome}
+use Rattle.exec_loop.specs.declared.machine.Outcome.TheVariants as outcome
+use Rattle.exec_loop.specs.declared.machine.Report.{Report}
+use Rattle.exec_loop.specs.declared.machine.StepError.{StepError}
+use Rattle.exec_loop.specs.Attempt.{Ending, Finished, Attempt, IsAttempt, next_dna}
+use Rattle.exec_loop.specs.State.{State, IsLimited}
+use Rattle.exec_loop.specs.Steps.{dna_behind, MakesAttempt, StandsWithinAttempt}
+use Rattle.exec_loop.specs.Readings.{BothAreRead, OneRanOut}
+use Rattle.exec_loop.specs.Rewriting.{ReplacesAt, ComesTo, ComesToState}
+use Rattle.exec_loop.proofs.Attempts.{AttemptWith, AttemptOf, attempt_of_pattern, attempt_of_template, attempt_read}
+use Rattle.exec_loop.proofs.Lifting.{IsLifted, lifted, behind_is}
+
+pub on_err : {T E : Type 0} (r : Result T E) (P : Type 0) → P → OnErr r P
+on_err (Ok x) P p = tt
+on_err (Err e) P p = p
+
+-- laws of takers, as they are cited here
+
+abbrev pub GoesOn : {Taker : Type 0} → (Taker → List (List Base) → Taker → Type 0) → Type 0
+GoesOn {Taker} follows = (a b c : Taker) (x y : List (List Base)) → follows a x b → follows b y c → follows a (x ++ y) c
+
+abbrev pub Starts : {Taker : Type 0} → (Taker → List (List Base) → Taker → Type 0) → (Taker → List (List Base) → Taker → Type 0) → Type 0
+Starts {Taker} follows within = (a b : Taker) (x y : List (List Base)) → follows a x b → within a (x ++ y) b
+
+abbrev pub GoesWithin : {Taker : Type 0} → (Taker → List (List Base) → Taker → Type 0) → (Taker → List (List Base) → Taker → Type 0) → Type 0
+GoesWithin {Taker} follows within = (a b c : Taker) (x y : List (List Base)) → follows a x b → within b y c → within a (x ++ y) c
+
+abbrev pub Widens : {Taker : Type 0} → (Taker → List (List Base) → Taker → Type 0) → Type 0
+Widens {Taker} within = (a b : Taker) (x y : List (List Base)) → within a x b → within a (x ++ y) b
+
+abbrev state : List Base → ℕ → State
+state d limit = record { dna = d; limit = limit }
+
+module _ {Taker : Type 0} (follows within : Taker → List (List Base) → Taker → Type 0) (d : List Base) (limit : ℕ) where
+
+  pub within_pattern : Widens within → (old new : Taker) → StandsWithin ReadsPattern within old new d → StandsWithinAttempt within old new (state d limit)
+  within_pattern widens old new x =
+      let made : AttemptWith d limit (rna_in x.reading) = attempt_of_pattern d limit x.reading x.is in
+      record {
+        attempt = made.attempt;
+        is = made.is;
+        stands = subst (λ l. within old l new) (sym made.begins) (widens old new (rna_in x.reading) made.more x.stands);
+      }
+
+  pub within_template : GoesWithin follows within → (old middle new : Taker) (items : List PatItem) (next : ℕ)
+      → PatternIsRead follows old middle d 0 items next → StandsWithin ReadsTemplate within middle new (drop next d) → StandsWithinAttempt within old new (state d limit)
+  within_template goes_within old middle new items next x y =
+      let made : AttemptOf d limit (x.rna ++ rna_in y.reading) = attempt_of_template d limit x.read x.rna (drop next d) y.reading x.reads y.is in
+      record {
+        attempt = made.attempt;
+        is = made.is;
+        stands = subst (λ l. within old l new) (sym made.gives) (goes_within old middle new x.rna (rna_in y.reading) x.taken y.stands);
+      }
+
+  pub template_ran_out : GoesOn follows → (old middle new : Taker) (items : List PatItem) (next : ℕ)
+      → PatternIsRead follows old middle d 0 items next → RanOutTaking ReadsTemplate follows middle new (drop next d) → OneRanOut follows old new d
+  template_ran_out goes_on old middle new items next x y = record {
+    rna = x.rna ++ y.rna;
+    ran_out = inr (record {
+      items = x.read;
+      pattern_rna = x.rna;
+      template_rna = y.rna;
+      middle = drop next d;
+      pattern = x.reads;
+      template = y.ran_out;
+      whole = refl;
+    });
+    taken = goes_on old middle new x.rna y.rna x.taken y.taken;
+  }
+
+  pub both_read : GoesOn follows → (old middle new : Taker) (items : List PatItem) (puts : List TplItem) (next place : ℕ)
+      → PatternIsRead follows old middle d 0 items next → TemplateIsRead follows middle new d next puts place → BothAreRead follows old new d items puts place
+  both_read goes_on old middle new items puts next place x y = record {
+    items = x.read;
+    puts = y.read;
+    pattern_rna = x.rna;
+    template_rna = y.rna;
+    middle = drop next d;
+    reads_pattern = x.reads;
+    reads_template = y.reads;
+    pattern_held = x.held;
+    template_held = y.held;
+    taken = goes_on old middle new x.rna y.rna x.taken y.taken;
+  }
+
+  pub within_both : Starts follows within → (old new : Taker) (pattern : List PatItem) (template : List TplItem) (place : ℕ)
+      → BothAreRead follows old new d pattern template place → StandsWithinAttempt within old new (state d limit)
+  within_both starts old new pattern template place x =
+      let made : AttemptOf d limit (x.pattern_rna ++ x.template_rna) = attempt_read d limit x.items x.puts x.pattern_rna x.template_rna x.middle (drop place d) x.reads_pattern x.reads_template in
+      let stands : within old (x.pattern_rna ++ x.template_rna ++ []) new = starts old new (x.pattern_rna ++ x.template_rna) [] x.taken in
+      record {
+        attempt = made.attempt;
+        is = made.is;
+        stands = subst (λ l. within old l new) (append-nil (x.pattern_rna ++ x.template_rna) ∙ sym made.gives) stands;
+      }
+
+  pub makes_attempt : (old new : Taker) (after : State) (report : Report) (pattern : List PatItem) (template : List TplItem) (place : ℕ)
+      → length d ≤ 2 ^ 41 → limit ≤ 2 ^ 40 → length pattern ≤ length d
+      → BothAreRead follows old new d pattern template place → ComesToState (state d limit) after place pattern template report.outcome
+      → report.pattern ≡ pattern → report.template ≡ template
+      → MakesAttempt follows old new (state d limit) after report
+  makes_attempt old new after report pattern template place small most few x y pattern_is template_is =
+      let number : length pattern ≡ length x.items = ap length x.pattern_held ∙ length-map x.items held_pattern_item in
+      let comes : ComesTo d place limit (held_pattern x.items) (held_template x.puts) report.outcome y.next =
+      subst (λ p. ComesTo d place limit p (held_template x.puts) report.outcome y.next) x.pattern_held
+      (subst (λ t. ComesTo d place limit pattern t report.outcome y.next) x.template_held y.comes) in
+      let made : IsLifted d limit x.items x.puts (x.pattern_rna ++ x.template_rna) report.outcome y.next =
+      lifted d x.items x.puts x.pattern_rna x.template_rna x.middle place x.reads_pattern x.reads_template (omega arith) (omega arith) limit report.outcome y.next most comes in
+      record {
+        attempt = made.attempt;
+        is = made.is;
+        pattern = pattern_is ∙ x.pattern_held ∙ ap held_pattern (sym made.pattern);
+        template = template_is ∙ x.template_held ∙ ap held_template (sym made.template);
+        outcome = made.reported;
+        dna = y.dna ∙ ap (λ o. unwrap_or o d) made.behind ∙ behind_is d made.attempt.ending;
+        taken = subst (λ l. follows old l new) (sym made.gives) x.taken;
+      }
+
+  pub makes_last_attempt : (old new : Taker) (report : Report) → OneRanOut follows old new d
+      → report.pattern ≡ [] → report.template ≡ [] → report.outcome ≡ outcome.Finished
+      → MakesAttempt follows old new (state d limit) (state d limit) report
+  makes_last_attempt old new report x pattern template outcome = record {
+    attempt = record { pattern = []; template = []; rna = x.rna; ending = Finished };
+    is = record { ran_out = x.ran_out; no_pattern = refl; no_template = refl };
+    pattern = pattern;
+    template = template;
+    outcome = outcome;
+    dna = refl;
+    taken = x.taken;
+  }
+
+-- a match at a place, with the replacement that was made of it
+pub replaces_at : (d : List Base) (place : ℕ) (pattern : List PatItem) (template : List TplItem) (stop : ℕ) (groups : List (ℕ × ℕ)) (next : List Base)
+    → MatchesAt d place pattern stop groups → next ≡ replaced d template groups stop → ReplacesAt d place pattern template (stop - place) next
+replaces_at d place pattern template stop groups next x puts =
+    let back : stop ≡ place + (stop - place) = let h = x.stops in omega arith in
+    record {
+      groups = groups;
+      matches = subst (λ n. MatchesAt d place pattern n groups) back x;
+      puts = puts ∙ ap (λ n. replaced d template groups n) back;
+    }
+
+module _ {S : Type 0} (bases : S → List Base) (old new : State) (d : List Base) (limit place : ℕ) (pattern : List PatItem) (template : List TplItem) (outcome : Outcome) (next : Option S) (was : old ≡ state d limit)
+    (comes : ComesTo d place limit pattern template outcome (option_map bases next)) where
+
+  comes_to : ComesTo old.dna place old.limit pattern template outcome (option_map bases next)
+  comes_to = subst (λ (s : State). ComesTo s.dna place s.limit pattern template outcome (option_map bases next)) (sym was) comes
+
+  -- the next DNA was put in the place of the old one
+  pub next_is_put : (dna : S) (after : ℕ) → next ≡ Some dna → new ≡ state (bases dna) after → ComesToState old new place pattern template outcome
+  next_is_put dna after some is = record {
+    next = option_map bases next;
+    comes = comes_to;
+    dna = ap (λ (s : State). s.dna) is ∙ sym (ap (λ o. unwrap_or (option_map bases o) old.dna) some);
+  }
+
+  -- there is no next DNA
+  pub dna_stays : next ≡ None → new ≡ old → ComesToState old new place pattern template outcome
+  dna_stays none is = record {
+    next = option_map bases next;
+    comes = comes_to;
+    dna = ap (λ (s : State). s.dna) is ∙ sym (ap (λ o. unwrap_or (option_map bases o) old.dna) none);
+  }
+
+module _ {Taker : Type 0} (follows within : Taker → List (List Base) → Taker → Type 0) (before after : State) (d : List Base) (is : before.dna ≡ d) (limited : IsLimited before) (old new : Taker) where
+
+  pub step_ok : (pattern : List PatItem) (template : List TplItem) (place : ℕ) (result : Result Report StepError)
+      → BothAreRead follows old new d pattern template place → length pattern ≤ length d
+      → IfOk result (λ report. ComesToState before after place pattern template report.outcome)
+      → IfOk result (λ report. report.pattern ≡ pattern) → IfOk result (λ report. report.template ≡ template)
+      → IfOk result (λ report. MakesAttempt follows old new before after report)
+  step_ok pattern template place (Ok report) read few comes pattern_is template_is =
+      let fits = limited.within in let most = limited.most in
+      let same : length before.dna ≡ length d = ap length is in
+      makes_attempt follows within before.dna before.limit old new after report pattern template place (omega arith) (omega arith) (omega arith)
+      (subst (λ e. BothAreRead follows old new e pattern template place) (sym is) read) comes pattern_is template_is
+  step_ok pattern template place (Err e) read few comes pattern_is template_is = tt
+
+  pub step_last : (report : Report) → OneRanOut follows old new d → report.pattern ≡ [] → report.template ≡ [] → report.outcome ≡ outcome.Finished
+      → MakesAttempt follows old new before before report
+  step_last report ran_out pattern template outcome =
+      makes_last_attempt follows within before.dna before.limit old new report (subst (λ e. OneRanOut follows old new e) (sym is) ran_out) pattern template outcome
+
+  pub step_part : Starts follows within → (pattern : List PatItem) (template : List TplItem) (place : ℕ) → BothAreRead follows old new d pattern template place → StandsWithinAttempt within old new before
+  step_part starts pattern template place read =
+      within_both follows within before.dna before.limit starts old new pattern template place (subst (λ e. BothAreRead follows old new e pattern template place) (sym is) read)
+
+pub put_fits : (limit len : ℕ) (next made : List Base) → next ≡ made → len ≡ length made → len ≤ limit → length next ≤ limit
+put_fits limit len next made is number within = omega (arith, ap length is)

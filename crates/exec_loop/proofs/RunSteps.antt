@@ -1,0 +1,143 @@
+-- A run, attempt by attempt.
+use Rattle.std.proofs.Common.{◌≡◌, ◌≢◌, ℕ, ◌+◌, ◌-◌, ◌*◌, ◌^◌, ◌<◌, ◌≤◌, Option, Some, None, List, [], ◌∷◌, ◌++◌, length, arith, refl, sym, ap, subst, ◌∙◌, append-nil, append_assoc, length-append}
+use Rattle.std.proofs.lemmas.Option.{none-some, same_Some}
+use Rattle.fuun_base.specs.declared.letters.Base.{Base}
+use Rattle.exec_loop.specs.declared.machine.Outcome.{Outcome}
+use Rattle.exec_loop.specs.declared.machine.Report.{Report}
+use Rattle.exec_loop.specs.declared.machine.RunEnd.{RunEnd}
+use Rattle.exec_loop.specs.declared.machine.RunEnd.TheVariants.{Budget}
+use Rattle.exec_loop.specs.Attempt.{Ending, Matched, NoMatch, TooLong, Finished, Attempt, IsAttempt, next_dna}
+use Rattle.exec_loop.specs.Run.{Leads, rna_of, Run, SpendsBudget, StopsAt, RunsTo, IsRun}
+use Rattle.exec_loop.specs.State.{State, IsLimited}
+use Rattle.exec_loop.specs.Steps.{outcome_of, dna_behind, MakesAttempt, StandsWithinAttempt, MakesRun, BreaksOff}
+use Rattle.exec_loop.specs.RunEnds.{run_end}
+use Rattle.exec_loop.proofs.Parts.{GoesOn, GoesWithin, Widens}
+use Rattle.exec_loop.proofs.Runs.{end_at, runs_at, RunWith, run_with, RunBehind, run_behind_chain}
+
+-- one attempt more
+
+leads_more : (limit : ℕ) (d : List Base) (attempts : List Attempt) (before : List Base) (attempt : Attempt) (next : List Base) → Leads limit d attempts before → IsAttempt before limit attempt → next_dna attempt.ending ≡ Some next → Leads limit d (attempts ++ attempt ∷ []) next
+leads_more limit d [] before attempt next leads is goes = (subst (λ e. IsAttempt e limit attempt) (sym leads) is, (next, goes, refl))
+leads_more limit d (first ∷ attempts) before attempt next leads is goes = (leads.0, (leads.1.0, leads.1.1, leads_more limit leads.1.0 attempts before attempt next leads.1.2 is goes))
+
+rna_of_more : (attempts : List Attempt) (attempt : Attempt) → rna_of (attempts ++ attempt ∷ []) ≡ rna_of attempts ++ attempt.rna
+rna_of_more [] attempt = append-nil attempt.rna
+rna_of_more (first ∷ attempts) attempt = ap (λ l. first.rna ++ l) (rna_of_more attempts attempt) ∙ sym (append_assoc first.rna (rna_of attempts) attempt.rna)
+
+next_is_there : (d : List Base) (ending : Ending) (before : ℕ) → run_end (outcome_of ending) before ≡ None → next_dna ending ≡ Some (dna_behind d ending)
+next_is_there d (Matched stop next) before none = refl
+next_is_there d (NoMatch next) before none = refl
+next_is_there d TooLong before none = absurd (none-some _ (sym none))
+next_is_there d Finished before none = absurd (none-some _ (sym none))
+
+record EndsThere (d : List Base) (ending : Ending) (before : ℕ) (end : RunEnd) : Type 0 where
+  is : end_at ending before ≡ end
+  none : next_dna ending ≡ None
+  stays : dna_behind d ending ≡ d
+
+ends_there : (d : List Base) (ending : Ending) (before : ℕ) (end : RunEnd) → run_end (outcome_of ending) before ≡ Some end → EndsThere d ending before end
+unfolding end_at
+ends_there d (Matched stop next) before end some = absurd (none-some end some)
+ends_there d (NoMatch next) before end some = absurd (none-some end some)
+ends_there d TooLong before end some = record { is = same_Some _ end some; none = refl; stays = refl }
+ends_there d Finished before end some = record { is = same_Some _ end some; none = refl; stays = refl }
+
+-- attempts of a run that were made so far, each of which gave a next DNA
+pub record IsMade {Taker : Type 0} (follows : Taker → List (List Base) → Taker → Type 0) (faults taken : Taker → ℕ) (old_taker new_taker : Taker) (old new : State) (number : ℕ) : Type 0 where
+  pub attempts : List Attempt
+  pub leads : Leads old.limit old.dna attempts new.dna
+  pub count : length attempts ≡ number
+  pub gave : follows old_taker (rna_of attempts) new_taker
+  pub same_limit : new.limit ≡ old.limit
+  pub limited : IsLimited new
+  pub same_faults : faults new_taker ≡ faults old_taker
+  pub few : taken new_taker ≤ taken old_taker + 2 ^ 41 * number
+
+module _ {Taker : Type 0} (follows within : Taker → List (List Base) → Taker → Type 0) (faults taken : Taker → ℕ) where
+
+  pub none_made : ((a : Taker) → follows a [] a) → (taker : Taker) (state : State) → IsLimited state → IsMade follows faults taken taker taker state state 0
+  none_made stays taker state limited = record {
+    attempts = [];
+    leads = refl;
+    count = refl;
+    gave = stays taker;
+    same_limit = refl;
+    limited = limited;
+    same_faults = refl;
+    few = omega arith;
+  }
+
+  pub one_more : GoesOn follows → (old_taker taker new_taker : Taker) (old state new : State) (number : ℕ) (report : Report) → IsMade follows faults taken old_taker taker old state number
+      → MakesAttempt follows taker new_taker state new report → new.limit ≡ state.limit → IsLimited new → run_end report.outcome number ≡ None
+      → faults new_taker ≡ faults taker → taken new_taker ≤ taken taker + 2 ^ 41
+      → IsMade follows faults taken old_taker new_taker old new (number + 1)
+  one_more goes_on old_taker taker new_taker old state new number report made step limit limited none same_faults few =
+      let goes : next_dna step.attempt.ending ≡ Some new.dna =
+      next_is_there state.dna step.attempt.ending number (ap (λ o. run_end o number) (sym step.outcome) ∙ none) ∙ ap (λ d. Some d) (sym step.dna) in
+      let is : IsAttempt state.dna old.limit step.attempt = subst (λ n. IsAttempt state.dna n step.attempt) made.same_limit step.is in
+      record {
+        attempts = made.attempts ++ step.attempt ∷ [];
+        leads = leads_more old.limit old.dna made.attempts state.dna step.attempt new.dna made.leads is goes;
+        count = omega (arith, length-append made.attempts (step.attempt ∷ []), made.count);
+        gave = subst (λ l. follows old_taker l new_taker) (sym (rna_of_more made.attempts step.attempt)) (goes_on old_taker taker new_taker (rna_of made.attempts) step.attempt.rna made.gave step.taken);
+        same_limit = limit ∙ made.same_limit;
+        limited = limited;
+        same_faults = same_faults ∙ made.same_faults;
+        few = let before = made.few in omega arith;
+      }
+
+  pub run_is_spent : (old_taker new_taker : Taker) (old new : State) (budget : ℕ) → IsMade follows faults taken old_taker new_taker old new budget → MakesRun follows old_taker new_taker old new budget Budget
+  run_is_spent old_taker new_taker old new budget made = record {
+    run = record { end = Budget; attempts = made.attempts; rna = rna_of made.attempts; dna = new.dna };
+    is = record { leads = made.leads; all = made.count; rna = refl };
+    ends = refl;
+    dna = refl;
+    taken = made.gave;
+  }
+
+  pub run_ends : GoesOn follows → (old_taker taker new_taker : Taker) (old state new : State) (budget number : ℕ) (report : Report) (end : RunEnd) → IsMade follows faults taken old_taker taker old state number
+      → MakesAttempt follows taker new_taker state new report → run_end report.outcome number ≡ Some end → number < budget
+      → MakesRun follows old_taker new_taker old new budget end
+  run_ends goes_on old_taker taker new_taker old state new budget number report end made step some allowed =
+      let there : EndsThere state.dna step.attempt.ending number end =
+      ends_there state.dna step.attempt.ending number end (ap (λ o. run_end o number) (sym step.outcome) ∙ some) in
+      let is : IsAttempt state.dna old.limit step.attempt = subst (λ n. IsAttempt state.dna n step.attempt) made.same_limit step.is in
+      let run : Run = record { end = end; attempts = made.attempts ++ step.attempt ∷ []; rna = rna_of (made.attempts ++ step.attempt ∷ []); dna = state.dna } in
+      let stops : StopsAt old.dna budget old.limit run step.attempt.ending number = record {
+        earlier = made.attempts;
+        last = step.attempt;
+        made = refl;
+        leads = made.leads;
+        number = made.count;
+        allowed = allowed;
+        attempt = is;
+        ends = refl;
+        rna = refl;
+      } in
+      record {
+        run = run;
+        is = subst (λ e. RunsTo old.dna budget old.limit run e) there.is (runs_at old.dna budget old.limit run step.attempt.ending number there.none stops);
+        ends = refl;
+        dna = sym (step.dna ∙ there.stays);
+        taken = subst (λ l. follows old_taker l new_taker) (sym (rna_of_more made.attempts step.attempt)) (goes_on old_taker taker new_taker (rna_of made.attempts) step.attempt.rna made.gave step.taken);
+      }
+
+  pub run_breaks_off : GoesWithin follows within → Widens within → (old_taker taker new_taker : Taker) (old state new : State) (budget number : ℕ) → IsMade follows faults taken old_taker taker old state number
+      → number < budget → StandsWithinAttempt within taker new_taker state → new ≡ state → BreaksOff within old_taker new_taker old new budget
+  run_breaks_off goes_within widens old_taker taker new_taker old state new budget number made allowed part same =
+      let is : IsAttempt state.dna old.limit part.attempt = subst (λ n. IsAttempt state.dna n part.attempt) made.same_limit part.is in
+      let rest : RunWith state.dna (budget - number) old.limit part.attempt = run_with state.dna (budget - number) old.limit part.attempt (omega arith) is in
+      let whole : RunBehind old.dna (length made.attempts + (budget - number)) old.limit made.attempts rest.run =
+      run_behind_chain old.dna (budget - number) old.limit made.attempts state.dna rest.run made.leads rest.is in
+      let all : length made.attempts + (budget - number) ≡ budget = let count = made.count in omega arith in
+      let rna : rna_of made.attempts ++ (part.attempt.rna ++ rest.more) ≡ whole.run.rna = ap (λ l. rna_of made.attempts ++ l) (sym rest.begins) ∙ sym whole.gives in
+      record {
+        run = whole.run;
+        is = subst (λ n. IsRun old.dna n old.limit whole.run) all whole.is;
+        made = made.attempts;
+        left = rest.run.attempts;
+        front = whole.attempts;
+        leads = subst (λ (s : State). Leads old.limit old.dna made.attempts s.dna) (sym same) made.leads;
+        stands = subst (λ l. within old_taker l new_taker) rna
+        (goes_within old_taker taker new_taker (rna_of made.attempts) (part.attempt.rna ++ rest.more) made.gave (widens taker new_taker part.attempt.rna rest.more part.stands));
+      }

@@ -1,0 +1,22 @@
+use Rattle.std.proofs.Common.{ℕ}
+use Rattle.std.proofs.lemmas.Result.{err_from_is_err_and}
+use Rattle.exec_loop.specs.State.{State}
+use Rattle.exec_loop.specs.Steps.{StandsWithinAttempt}
+use Rattle.exec_loop.proofs.Parts.{on_err, within_pattern, within_template, template_ran_out, both_read}
+use Rattle.exec_loop.proofs.readings.read_both.Goals as goal
+
+pub returns-in_err-pattern-clause-part : goal.returns-in_err-pattern-clause-part
+returns-in_err-pattern-clause-part g c =
+    on_err c.from_residual.result _ (λ (limit : ℕ). within_pattern g.T.RnaTaker.follows g.T.RnaTaker.within (g.S.Strand.bases c.args.dna.now) limit g.met.T.RnaTaker.widens c.args.rna.now c.read_pattern.new.rna c.in_err-pattern.ensures.part)
+
+pub returns-in_err-template-clause-ran_out : goal.returns-in_err-template-clause-ran_out
+returns-in_err-template-clause-ran_out g c e =
+    template_ran_out g.T.RnaTaker.follows g.T.RnaTaker.within (g.S.Strand.bases c.args.dna.now) 0 g.met.T.RnaTaker.goes_on c.args.rna.now c.read_pattern.new.rna c.read_template.new.rna c.in_ok-pattern.pattern c.in_ok-pattern.middle c.in_ok-pattern.ensures.read (c.in_err-template.ensures.ran_out (let h = err_from_is_err_and c.from_residual-in_err-template.result c.from_residual-in_err-template.ensures.1 in cc (e, h.1, h.2)))
+
+pub returns-in_err-template-clause-part : goal.returns-in_err-template-clause-part
+returns-in_err-template-clause-part g c =
+    on_err c.from_residual-in_err-template.result _ (λ (limit : ℕ). within_template g.T.RnaTaker.follows g.T.RnaTaker.within (g.S.Strand.bases c.args.dna.now) limit g.met.T.RnaTaker.goes_within c.args.rna.now c.read_pattern.new.rna c.read_template.new.rna c.in_ok-pattern.pattern c.in_ok-pattern.middle c.in_ok-pattern.ensures.read c.in_err-template.ensures.part)
+
+pub returns-clause-read : goal.returns-clause-read
+returns-clause-read g c =
+    both_read g.T.RnaTaker.follows g.T.RnaTaker.within (g.S.Strand.bases c.args.dna.now) 0 g.met.T.RnaTaker.goes_on c.args.rna.now c.read_pattern.new.rna c.read_template.new.rna c.in_ok-pattern.pattern c.in_ok-template.template c.in_ok-pattern.middle c.in_ok-template.place c.in_ok-pattern.ensures.read c.in_ok-template.ensures.read

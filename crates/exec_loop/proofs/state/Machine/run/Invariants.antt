@@ -1,0 +1,5 @@
+use Rattle.exec_loop.proofs.RunSteps.{IsMade}
+use Rattle.exec_loop.proofs.state.Machine.run.Given as goal
+
+abbrev pub invariant-loop-attempt : goal.invariant-loop-attempt
+invariant-loop-attempt g l = IsMade g.T.RnaTaker.follows g.T.RnaTaker.faults g.T.RnaTaker.taken l.fn.rna l.rna l.fn.self l.self l.attempt

@@ -1,0 +1,9 @@
+pub mod Attempt
+pub mod Run
+pub mod State
+pub mod Steps
+pub mod Laws
+pub mod Readings
+pub mod Rewriting
+pub mod RunEnds
+pub mod Worked

@@ -1,0 +1,23 @@
+//! What holds of the definitions. Each call does nothing: its clause is the law.
+ghost use Rattle.exec_loop.specs.Attempt.{IsAttempt};
+ghost use Rattle.exec_loop.specs.Laws.{HasAttempt, HasOneAttempt, HasRun, HasOneRun};
+ghost use Rattle.exec_loop.specs.Worked.{matching_dna, matching_attempt, failing_dna, failing_attempt, finishing_dna, finishing_attempt};
+
+/// Under every limit each DNA has exactly one attempt.
+pub fn one_attempt()
+    ensures made { HasAttempt }
+    ensures once { HasOneAttempt }
+{}
+
+/// For every budget and limit each DNA has exactly one run.
+pub fn one_run()
+    ensures made { HasRun }
+    ensures once { HasOneRun }
+{}
+
+/// Worked attempts: one that matches, one that does not, and one that finishes.
+pub fn attempts_worked()
+    ensures matching { IsAttempt matching_dna 30 matching_attempt }
+    ensures failing { IsAttempt failing_dna 9 failing_attempt }
+    ensures finishing { IsAttempt finishing_dna 4 finishing_attempt }
+{}

@@ -1,0 +1,16 @@
+//! The machine: one attempt, and whole runs.
+#![tactic(auto)]
+
+pub mod laws;
+mod machine;
+mod readings;
+mod rewriting;
+mod run;
+mod state;
+mod step;
+
+pub use machine::{Outcome, Report, RunEnd, StepError};
+pub use state::Machine;
+
+#[cfg(test)]
+mod tests;

@@ -1,0 +1,68 @@
+ghost use Rattle.std.specs.Prelude.{◌≡◌, ◌≤◌, ◌^◌, length, drop, All, IfOk};
+ghost use Rattle.std.specs.Option.{option_map};
+ghost use Rattle.dna_items.specs.Balance.{IsBalanced};
+ghost use Rattle.exec_loop.specs.Rewriting.{ComesTo};
+ghost use Rattle.matcher.specs.Found.{MatchesAt, LiesWithin};
+
+use crate::Outcome;
+use crate::readings::Items;
+use fuun_base::{NoMemory, Steps};
+use matcher::{GroupList, MatchEnd, match_at};
+use replacer::{replace, replaced_len};
+use std::alloc::Global;
+use std::sync::ledger::Ledger;
+use strand::Strand;
+
+/// How an attempt ended whose items were read, and the next DNA where there is one.
+#[derive(Drop)]
+pub(crate) struct Rewriting<S: Strand> {
+    pub(crate) outcome: Outcome,
+    pub(crate) next: Option<S>,
+}
+
+/// Matches the items on what the DNA holds behind them, and makes the next DNA.
+pub(crate) fn rewrite<S: Strand, L: Ledger>(alloc: Global, dna: &S, limit: u64, items: &Items, steps: &mut Steps<L>) -> Result<Rewriting<S>, NoMemory>
+    requires place { items.now.place ≤ length (S.bases dna.now) }
+    requires balanced { IsBalanced items.now.pattern }
+    requires limit { limit ≤ 2 ^ 40 }
+    ensures { IfOk result (λ made. ComesTo (S.bases dna.now) items.now.place limit items.now.pattern items.now.template made.outcome (option_map S.bases made.next)) }
+{
+    match match_at(alloc, dna, items.place, &items.pattern)? {
+        MatchEnd::Matched { stop, groups } => put(alloc, dna, limit, items, stop, &groups, steps),
+        MatchEnd::NoMatch => leave(dna, items.place, steps),
+    }
+}
+
+/// The next DNA after a match, if it is within the limit.
+fn put<S: Strand, L: Ledger>(alloc: Global, dna: &S, limit: u64, items: &Items, stop: u64, groups: &GroupList, steps: &mut Steps<L>) -> Result<Rewriting<S>, NoMemory>
+    requires stop { stop ≤ length (S.bases dna.now) }
+    requires groups { All (LiesWithin (length (S.bases dna.now))) groups.now }
+    requires matches { MatchesAt (S.bases dna.now) items.now.place items.now.pattern stop groups.now }
+    requires limit { limit ≤ 2 ^ 40 }
+    ensures { IfOk result (λ made. ComesTo (S.bases dna.now) items.now.place limit items.now.pattern items.now.template made.outcome (option_map S.bases made.next)) }
+{
+    let Some(_len) = replaced_len(dna, &items.template, groups, stop, limit) else {
+        return Ok(Rewriting {
+            outcome: Outcome::TooLong,
+            next: None,
+        });
+    };
+    let next = replace(alloc, dna, &items.template, groups, stop, steps)?;
+    Ok(Rewriting {
+        outcome: Outcome::Matched(stop - items.place),
+        next: Some(next),
+    })
+}
+
+/// The next DNA where there is no match: what the readings left.
+fn leave<S: Strand, L: Ledger>(dna: &S, place: u64, steps: &mut Steps<L>) -> Result<Rewriting<S>, NoMemory>
+    requires { place ≤ length (S.bases dna.now) }
+    ensures outcome { IfOk result (λ made. made.outcome ≡ Outcome.NoMatch) }
+    ensures next { IfOk result (λ made. option_map S.bases made.next ≡ Some (drop place (S.bases dna.now))) }
+{
+    let rest = dna.sub(place, dna.len(), steps)?;
+    Ok(Rewriting {
+        outcome: Outcome::NoMatch,
+        next: Some(rest),
+    })
+}

@@ -1,0 +1,81 @@
+ghost use Rattle.std.specs.Prelude.{◌≡◌, ◌≢◌, ◌+◌, ◌^◌, ◌≤◌, [], length, IfOk, OnErr};
+ghost use Rattle.dna_items.specs.Balance.{IsBalanced};
+ghost use Rattle.exec_loop.specs.Rewriting.{ComesToState};
+ghost use Rattle.exec_loop.specs.State.{IsLimited};
+ghost use Rattle.exec_loop.specs.Steps.{MakesAttempt, StandsWithinAttempt};
+ghost use Rattle.fuun_io.specs.Counts.{Rose};
+
+use crate::readings::{Items, read_both};
+use crate::rewriting::{Rewriting, rewrite};
+use crate::{Machine, Outcome, Report, StepError};
+use dna_items::{PatList, TplList};
+use dna_reader::{ReadingError, RnaTaker};
+use fuun_base::Steps;
+use std::alloc::Global;
+use std::sync::ledger::Ledger;
+use strand::Strand;
+
+impl<S: Strand> Machine<S> {
+    /// Makes one attempt. Its RNA goes to the taker, whatever becomes of the attempt.
+    /// After an error the DNA is as before, and another `step` reads that RNA again.
+    pub fn step<T: RnaTaker, L: Ledger>(&mut self, rna: &mut T, steps: &mut Steps<L>) -> Result<Report, StepError>
+        requires { T.taken rna.old ≤ 2 ^ 98 }
+        ensures attempt { IfOk result (λ report. MakesAttempt T.follows rna.old rna.new self.old self.new report) }
+        ensures limit { self.new.limit ≡ self.old.limit }
+        ensures limited { IsLimited self.new }
+
+        ensures unchanged { OnErr result (self.new ≡ self.old) }
+        ensures part { OnErr result (StandsWithinAttempt T.within rna.old rna.new self.old) }
+        ensures failed { result ≡ Err StepError.TakerFailed → Rose (T.faults rna.old) (T.faults rna.new) }
+        ensures no_fault { result ≢ Err StepError.TakerFailed → T.faults rna.new ≡ T.faults rna.old }
+        ensures most { T.taken rna.new ≤ T.taken rna.old + 2 ^ 41 }
+    {
+        let _limit = self.limit();
+        match read_both(self.alloc, &self.dna, rna) {
+            Ok(items) => self.put_next(items, steps),
+            Err(ReadingError::RanOut) => Ok(Report::finished(self.alloc)),
+            Err(ReadingError::TakerFailed) => Err(StepError::TakerFailed),
+            Err(ReadingError::NoMemory) => Err(StepError::NoMemory),
+        }
+    }
+
+    /// Puts the DNA that the items make of this one in its place, if there is one.
+    fn put_next<L: Ledger>(&mut self, items: Items, steps: &mut Steps<L>) -> Result<Report, StepError>
+        requires place { items.place ≤ length self.old.dna }
+        requires balanced { IsBalanced items.pattern }
+        ensures came { IfOk result (λ report. ComesToState self.old self.new items.place items.pattern items.template report.outcome) }
+        ensures pattern { IfOk result (λ report. report.pattern ≡ items.pattern) }
+        ensures template { IfOk result (λ report. report.template ≡ items.template) }
+        ensures limit { self.new.limit ≡ self.old.limit }
+        ensures limited { IsLimited self.new }
+        ensures unchanged { OnErr result (self.new ≡ self.old) }
+        ensures memory { OnErr result (result ≡ Err StepError.NoMemory) }
+    {
+        let rewriting = rewrite(self.alloc, &self.dna, self.limit, &items, steps)?;
+        let Items { pattern, template, .. } = items;
+        let Rewriting { outcome, next } = rewriting;
+        if let Some(dna) = next {
+            self.dna = dna;
+        }
+        Ok(Report {
+            pattern,
+            template,
+            outcome,
+        })
+    }
+}
+
+impl Report {
+    /// The report of an attempt in which a reading ran out.
+    fn finished(alloc: Global) -> Report
+        ensures pattern { result.pattern ≡ [] }
+        ensures template { result.template ≡ [] }
+        ensures outcome { result.outcome ≡ Outcome.Finished }
+    {
+        Report {
+            pattern: PatList::new(alloc),
+            template: TplList::new(alloc),
+            outcome: Outcome::Finished,
+        }
+    }
+}

@@ -1,0 +1,63 @@
+//! The program: words from the command line, files from the disk, output to standard output.
+#![tactic(auto)]
+
+mod disk;
+mod stream;
+
+use disk::DiskFolder;
+use fuun_base::Steps;
+use fuun_top::{Status, fuun, put_status};
+use std::env;
+use std::io::{BufWriter, ErrorKind};
+use std::marker::Brand;
+use std::process::ExitCode;
+use std::sync::ledger::{Blank, Ledger};
+use stream::StreamSink;
+
+/// Bytes of output that are kept back before they are written.
+const OUTPUT_BUFFER: usize = 1 << 16;
+
+/// The words after the program's name; the status where they can't be had.
+fn words(rt: &HostRuntime) -> Result<Vec<String>, Status> {
+    let mut args = match env::args(rt) {
+        Ok(args) => args,
+        Err(error) if error.kind() == ErrorKind::InvalidData => return Err(Status::Usage),
+        Err(_) => return Err(Status::NoMemory),
+    };
+    let _program = args.next();
+    args.collect(rt.alloc()).map_err(|_| Status::NoMemory)
+}
+
+fn run_counted<L: Ledger>(rt: &HostRuntime, words: &[String], blank: Blank) -> Status
+    requires name { blank.name ≡ L.name }
+    requires parts { blank.parts ≡ L.parts }
+    requires some { 0 < L.parts }
+{
+    let mut steps = Steps::<L>::new(blank);
+    let mut folder = DiskFolder::new(rt);
+    let Ok(buffer) = BufWriter::with_capacity(rt.alloc(), OUTPUT_BUFFER, rt.stdout()) else {
+        return Status::NoMemory;
+    };
+    let mut out = StreamSink::new(buffer);
+    let status = fuun(rt.alloc(), words, &mut folder, &mut out, &mut steps);
+    match out.flush() {
+        Ok(()) => status,
+        Err(_) => Status::WriteFault,
+    }
+}
+
+fn run(rt: &HostRuntime) -> Status {
+    match words(rt) {
+        Ok(words) => run_counted::<Brand>(rt, &words, Blank::new(1)),
+        Err(status) => status,
+    }
+}
+
+fn main(rt: HostRuntime) -> ExitCode {
+    let status = run(&rt);
+    let _ = put_status(&status, &mut StreamSink::new(rt.stderr()));
+    ExitCode::from(status.number())
+}
+
+#[cfg(test)]
+mod tests;

@@ -1,0 +1,40 @@
+// Standard output and standard error. No clause says what they take.
+ghost use Rattle.std.specs.Prelude.{None};
+
+use fuun_io::{Failed, Sink};
+use std::io::{self, Write};
+
+/// Bytes to a writer. It tells none of them.
+#[derive(Drop)]
+pub struct StreamSink<W: Write + Drop> {
+    writer: W,
+    faults: u64,
+}
+
+impl<W: Write + Drop> StreamSink<W> {
+    pub fn new(writer: W) -> Self {
+        StreamSink { writer, faults: 0 }
+    }
+
+    /// Hands on what the writer keeps back.
+    pub fn flush(&mut self) -> io::Result<()> {
+        self.writer.flush()
+    }
+}
+
+impl<W: Write + Drop> Sink for StreamSink<W> {
+    ghost bytes = { λ _. None };
+
+    ghost faults = { λ sink. sink.faults };
+
+    // A writer that takes no byte of a piece has failed.
+    fn put(&mut self, piece: &[u8]) -> Result<usize, Failed> {
+        match self.writer.write(piece) {
+            Ok(count) if count > 0 => Ok(count),
+            _ => {
+                self.faults = self.faults.saturating_add(1);
+                Err(Failed)
+            }
+        }
+    }
+}

@@ -1,0 +1,5 @@
+pub mod LineLemmas
+pub mod NumberLemmas
+pub mod OutputLemmas
+pub mod AskLemmas
+pub mod OneOutput

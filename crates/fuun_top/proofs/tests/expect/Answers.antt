@@ -1,0 +1,5 @@
+use Rattle.fuun_top.proofs.AskLemmas.{may_ask_all}
+use Rattle.fuun_top.proofs.tests.expect.Goals as goal
+
+pub fuun-answer-requires : goal.fuun-answer-requires
+fuun-answer-requires g c = may_ask_all _ _ (λ name. tt)

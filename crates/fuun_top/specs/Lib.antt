@@ -1,0 +1,9 @@
+pub mod Words
+pub mod StatusLine
+pub mod Lines
+pub mod Output
+pub mod Answer
+pub mod Asked
+pub mod Files
+pub mod Running
+pub mod OutputLaws

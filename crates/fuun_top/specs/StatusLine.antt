@@ -1,0 +1,41 @@
+-- The number and the line of a status.
+use Rattle.std.specs.Prelude.{ℕ, List, [], ◌∷◌, ◌++◌, codes, decimal}
+use Rattle.fuun_top.specs.declared.status.InFile.{InFile}
+use Rattle.fuun_top.specs.declared.status.InFile.TheVariants.{Dna, Prefix, Rna, Patch}
+use Rattle.fuun_top.specs.declared.status.Status.{Status}
+use Rattle.fuun_top.specs.declared.status.Status.TheVariants.{Done, Usage, OutOfBudget, TooLong, BadBase, InputTooLong, ReadFault, WriteFault, NoMemory}
+
+-- the name of a file that the words name
+abbrev pub file_name : InFile → List ℕ
+file_name Dna = codes "dna"
+file_name Prefix = codes "prefix"
+file_name Rna = codes "rna"
+file_name Patch = codes "patch"
+
+-- the exit status
+abbrev pub number_of : Status → ℕ
+number_of Done = 0
+number_of Usage = 2
+number_of OutOfBudget = 3
+number_of (TooLong attempt) = 4
+number_of (BadBase file place) = 5
+number_of (InputTooLong file) = 10
+number_of ReadFault = 11
+number_of WriteFault = 12
+number_of NoMemory = 13
+
+-- a line on standard error
+abbrev pub line : List ℕ → List ℕ
+line text = codes "fuun: " ++ text ++ 10 ∷ []
+
+-- what is written of a status: no byte for Done, else its line
+abbrev pub status_line : Status → List ℕ
+status_line Done = []
+status_line Usage = line (codes "usage")
+status_line OutOfBudget = line (codes "out of budget")
+status_line (TooLong attempt) = line (codes "too long at attempt " ++ decimal attempt)
+status_line (BadBase file place) = line (file_name file ++ codes ": byte " ++ decimal place ++ codes " is not a base")
+status_line (InputTooLong file) = line (file_name file ++ codes ": too long")
+status_line ReadFault = line (codes "read fault")
+status_line WriteFault = line (codes "write fault")
+status_line NoMemory = line (codes "no memory")

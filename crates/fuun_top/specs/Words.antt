@@ -1,0 +1,51 @@
+-- What the words of the command line ask for.
+use Rattle.std.specs.Prelude.{◌≡◌, ℕ, ◌^◌, Bool, ◌&&◌, if◌then◌else◌, Option, Some, None, List, [], ◌∷◌, map, length, nat_le, nat_lt, nat_eq, string_bytes, codes, String}
+use Rattle.std.specs.List.{list_all}
+use Rattle.std.specs.Cmp.Lexicographic.{pointwise}
+use Rattle.std.specs.Option.{option_map}
+use Rattle.std.specs.Str.Parse.{digits_value}
+
+-- what is asked for: the RNA of the run of a DNA file under a budget of attempts
+pub data Request : Type 0 where
+  Rna : List ℕ → ℕ → Request
+
+-- whether a byte is a decimal digit
+abbrev pub is_digit : ℕ → Bool
+is_digit byte = nat_le 48 byte && nat_le byte 57
+
+-- whether a text is one or more decimal digits and nothing else
+abbrev pub is_number : List ℕ → Bool
+is_number text = nat_lt 0 (length text) && list_all is_digit text
+
+-- the number that a text writes in decimal, where it is one of at most `most`
+abbrev pub number : ℕ → List ℕ → Option ℕ
+number most text = if is_number text && nat_le (digits_value 10 text) most then Some (digits_value 10 text) else None
+
+-- the most attempts that a budget allows
+abbrev pub most_budget : ℕ
+most_budget = 2 ^ 40
+
+-- whether a word is that text
+abbrev pub is_word : List ℕ → List ℕ → Bool
+is_word word text = pointwise nat_eq word text
+
+-- the words `rna --dna F --budget N`
+abbrev pub rna_request : List ℕ → List ℕ → List ℕ → List ℕ → List ℕ → Option Request
+rna_request verb first file second budget =
+    if is_word verb (codes "rna") && is_word first (codes "--dna") && is_word second (codes "--budget")
+    then option_map (Rna file) (number most_budget budget)
+    else None
+
+-- what the words ask for: none where they are in no form that is known
+abbrev pub request : List (List ℕ) → Option Request
+request [] = None
+request (a ∷ []) = None
+request (a ∷ b ∷ []) = None
+request (a ∷ b ∷ c ∷ []) = None
+request (a ∷ b ∷ c ∷ d ∷ []) = None
+request (a ∷ b ∷ c ∷ d ∷ e ∷ []) = rna_request a b c d e
+request (a ∷ b ∷ c ∷ d ∷ e ∷ f ∷ more) = None
+
+-- the texts of words
+abbrev pub texts : {Z : Type 0} → List (String Z) → List (List ℕ)
+texts words = map string_bytes words

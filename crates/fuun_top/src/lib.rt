@@ -1,0 +1,15 @@
+//! The top call: words, a folder and a sink in, a status and bytes out.
+#![tactic(auto)]
+
+mod files;
+pub mod laws;
+mod output;
+mod request;
+mod rna;
+mod status;
+#[cfg(test)]
+mod tests;
+mod top;
+
+pub use status::{InFile, Status, put_status};
+pub use top::fuun;

@@ -1,0 +1,117 @@
+ghost use Rattle.std.specs.Prelude.{◌≡◌, ◌++◌, codes, decimal};
+ghost use Rattle.fuun_io.specs.Counts.{HasCause};
+ghost use Rattle.fuun_io.specs.Written.{Puts};
+ghost use Rattle.fuun_top.specs.StatusLine.{file_name, line, number_of, status_line};
+
+use fuun_io::{Sink, WriteFault, put_pieces};
+use itoa::Buffer;
+
+/// A file that the words name.
+#[derive(Clone, Copy, Debug, PartialEq, Eq)]
+pub enum InFile {
+    Dna,
+    Prefix,
+    Rna,
+    Patch,
+}
+
+/// How a call of the program ended.
+#[derive(Clone, Copy, Debug, PartialEq, Eq)]
+pub enum Status {
+    /// The output was written whole.
+    Done,
+    /// The words are in no form that is known.
+    Usage,
+    /// The machine made as many attempts as the budget allows, and did not finish.
+    OutOfBudget,
+    /// This attempt, counted from 0, would have made the DNA longer than the limit.
+    TooLong { attempt: u64 },
+    /// The byte at this place of the file, counted from 0, is no letter of a base.
+    BadBase { file: InFile, place: u64 },
+    /// The file has more than 2^26 bytes.
+    InputTooLong { file: InFile },
+    /// A file could not be read.
+    ReadFault,
+    /// The output could not be written.
+    WriteFault,
+    /// There was not enough memory.
+    NoMemory,
+}
+
+impl InFile {
+    fn name(self) -> &'static str
+        ensures { result.now ≡ file_name self }
+    {
+        match self {
+            InFile::Dna => "dna",
+            InFile::Prefix => "prefix",
+            InFile::Rna => "rna",
+            InFile::Patch => "patch",
+        }
+    }
+}
+
+impl Status {
+    /// The exit status of the program.
+    pub fn number(&self) -> u8
+        ensures { result ≡ number_of self.now }
+    {
+        match self {
+            Status::Done => 0,
+            Status::Usage => 2,
+            Status::OutOfBudget => 3,
+            Status::TooLong { .. } => 4,
+            Status::BadBase { .. } => 5,
+            Status::InputTooLong { .. } => 10,
+            Status::ReadFault => 11,
+            Status::WriteFault => 12,
+            Status::NoMemory => 13,
+        }
+    }
+}
+
+/// Writes the line of a status: nothing for `Done`, else `fuun: `, its text and a line feed. It takes no memory.
+pub fn put_status<S: Sink>(status: &Status, sink: &mut S) -> Result<(), WriteFault>
+    ensures puts { Puts result (S.bytes sink.old) (S.bytes sink.new) (status_line status.now) }
+    ensures cause { HasCause (S.faults sink.old) (S.faults sink.new) result }
+{
+    match *status {
+        Status::Done => Ok(()),
+        Status::Usage => put_pieces(sink, &[b"fuun: usage\n"]),
+        Status::OutOfBudget => put_pieces(sink, &[b"fuun: out of budget\n"]),
+        Status::TooLong { attempt } => put_too_long(sink, attempt),
+        Status::BadBase { file, place } => put_bad_base(sink, file, place),
+        Status::InputTooLong { file } => put_pieces(sink, &[b"fuun: ", file.name().as_bytes(), b": too long\n"]),
+        Status::ReadFault => put_pieces(sink, &[b"fuun: read fault\n"]),
+        Status::WriteFault => put_pieces(sink, &[b"fuun: write fault\n"]),
+        Status::NoMemory => put_pieces(sink, &[b"fuun: no memory\n"]),
+    }
+}
+
+fn put_too_long<S: Sink>(sink: &mut S, attempt: u64) -> Result<(), WriteFault>
+    ensures puts { Puts result (S.bytes sink.old) (S.bytes sink.new) (line (codes "too long at attempt " ++ decimal attempt)) }
+    ensures cause { HasCause (S.faults sink.old) (S.faults sink.new) result }
+{
+    let mut buffer = Buffer::new();
+    put_pieces(sink, &[
+        b"fuun: ",
+        b"too long at attempt ",
+        buffer.format(attempt).as_bytes(),
+        b"\n",
+    ])
+}
+
+fn put_bad_base<S: Sink>(sink: &mut S, file: InFile, place: u64) -> Result<(), WriteFault>
+    ensures puts { Puts result (S.bytes sink.old) (S.bytes sink.new)
+        (line (file_name file ++ codes ": byte " ++ decimal place ++ codes " is not a base")) }
+    ensures cause { HasCause (S.faults sink.old) (S.faults sink.new) result }
+{
+    let mut buffer = Buffer::new();
+    put_pieces(sink, &[
+        b"fuun: ",
+        file.name().as_bytes(),
+        b": byte ",
+        buffer.format(place).as_bytes(),
+        b" is not a base\n",
+    ])
+}

@@ -1,0 +1,127 @@
+ghost use Rattle.std.specs.Prelude.{◌≡◌, ◌<◌};
+
+use crate::{InFile, Status, fuun, put_status};
+use fuun_base::Steps;
+use fuun_io::{MemFolder, MemSink};
+use std::alloc::{AllocError, Global};
+use std::marker::Brand;
+use std::process::Abort;
+use std::sync::ledger::{Blank, Ledger};
+use std::test::Fail;
+
+fn words(alloc: Global, texts: &[&str]) -> Result<Vec<String>, AllocError> {
+    let mut words = Vec::new(alloc);
+    for text in texts {
+        words.push(String::from_str(alloc, text)?)?;
+    }
+    Ok(words)
+}
+
+/// Asks for the words over one file of the name `a`, and compares the status and the bytes.
+fn expect<L: Ledger>(
+    rt: &impl Abort,
+    alloc: Global,
+    blank: Blank,
+    texts: &[&str],
+    file: &[u8],
+    status: Status,
+    bytes: &[u8],
+) -> Result<(), Fail>
+    requires name { blank.name ≡ L.name }
+    requires parts { blank.parts ≡ L.parts }
+    requires some { 0 < L.parts }
+{
+    let mut steps = Steps::<L>::new(blank);
+    let mut folder = MemFolder::new(alloc);
+    folder.add("a", file)?;
+    let mut sink = MemSink::with_room(alloc, 4096)?;
+    let words = words(alloc, texts)?;
+    let answer = fuun(alloc, &words, &mut folder, &mut sink, &mut steps);
+    assert_eq!(rt; answer, status);
+    assert_eq!(rt; sink.bytes(), bytes);
+    Ok(())
+}
+
+#[test]
+fn rna_of_small_files(rt: HostRuntime) -> Result<(), Fail> {
+    let silent = b"IIPIPICPIICICIIFICCIFPPIICCFPC".as_slice();
+    for (budget, file, status, bytes) in [
+        ("1", silent, Status::OutOfBudget, b"".as_slice()),
+        ("2", silent, Status::Done, b"".as_slice()),
+        ("1", b"IIIPIPIIIC".as_slice(), Status::Done, b"PIPIIIC\n".as_slice()),
+        ("0", b"IIIPIPIIIC".as_slice(), Status::OutOfBudget, b"".as_slice()),
+        ("0002", b"IIIPI".as_slice(), Status::Done, b"PI\n".as_slice()),
+        ("1", b"III".as_slice(), Status::Done, b"\n".as_slice()),
+        ("9", b"".as_slice(), Status::Done, b"".as_slice()),
+    ] {
+        let words = ["rna", "--dna", "a", "--budget", budget];
+        expect::<Brand>(&rt, rt.alloc(), Blank::new(1), &words, file, status, bytes)?;
+    }
+    Ok(())
+}
+
+#[test]
+fn refusals_write_nothing(rt: HostRuntime) -> Result<(), Fail> {
+    let bad = |place| Status::BadBase {
+        file: InFile::Dna,
+        place,
+    };
+    for (name, file, status) in [
+        ("a", b"IIPIPC\nXCF".as_slice(), bad(6)),
+        ("a", b"iip".as_slice(), bad(0)),
+        ("b", b"IIP".as_slice(), Status::ReadFault),
+    ] {
+        let words = ["rna", "--dna", name, "--budget", "1"];
+        expect::<Brand>(&rt, rt.alloc(), Blank::new(1), &words, file, status, b"")?;
+    }
+    Ok(())
+}
+
+#[test]
+fn other_words_are_usage(rt: HostRuntime) -> Result<(), Fail> {
+    for words in [
+        [].as_slice(),
+        ["paint"].as_slice(),
+        ["rna", "--dna", "a", "--budget", "x"].as_slice(),
+        ["rna", "--dna", "a", "--budget", ""].as_slice(),
+        ["rna", "--dna", "a", "--budget", "+1"].as_slice(),
+        ["rna", "--dna", "a", "--budget", "1099511627777"].as_slice(),
+        ["rna", "--budget", "1", "--dna", "a"].as_slice(),
+        ["rna", "--dna", "a", "--budget", "1", "b"].as_slice(),
+    ] {
+        expect::<Brand>(&rt, rt.alloc(), Blank::new(1), words, b"", Status::Usage, b"")?;
+    }
+    Ok(())
+}
+
+#[test]
+fn statuses_have_their_lines(rt: HostRuntime) -> Result<(), Fail> {
+    for (status, number, line) in [
+        (Status::Done, 0, b"".as_slice()),
+        (Status::Usage, 2, b"fuun: usage\n".as_slice()),
+        (Status::OutOfBudget, 3, b"fuun: out of budget\n".as_slice()),
+        (Status::TooLong { attempt: 70 }, 4, b"fuun: too long at attempt 70\n".as_slice()),
+        (
+            Status::BadBase {
+                file: InFile::Dna,
+                place: 6,
+            },
+            5,
+            b"fuun: dna: byte 6 is not a base\n".as_slice(),
+        ),
+        (
+            Status::InputTooLong { file: InFile::Prefix },
+            10,
+            b"fuun: prefix: too long\n".as_slice(),
+        ),
+        (Status::ReadFault, 11, b"fuun: read fault\n".as_slice()),
+        (Status::WriteFault, 12, b"fuun: write fault\n".as_slice()),
+        (Status::NoMemory, 13, b"fuun: no memory\n".as_slice()),
+    ] {
+        let mut sink = MemSink::with_room(rt.alloc(), 64)?;
+        put_status(&status, &mut sink)?;
+        assert_eq!(rt; status.number(), number);
+        assert_eq!(rt; sink.bytes(), line);
+    }
+    Ok(())
+}
