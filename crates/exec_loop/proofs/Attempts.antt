@@ -1,20 +1,20 @@
 -- Each DNA has exactly one attempt.
-use Rattle.std.proofs.Common.{◌≡◌, ℕ, ◌+◌, ◌<◌, ◌≤◌, ◌⊎◌, inl, inr, List, [], ◌∷◌, ◌++◌, length, arith, refl, sym, ap, subst, ◌∙◌, append-nil, append_assoc}
+use Rattle.std.proofs.Common.{◌≡◌, ℕ, ◌⊎◌, inl, inr, List, [], ◌++◌, length, arith, refl, sym, ap, subst, ◌∙◌, append-nil}
 use Rattle.std.proofs.lemmas.Bool.{cases_lt}
 use Rattle.fuun_base.specs.declared.letters.Base.{Base}
 use Rattle.dna_items.specs.declared.items.PatItem.{PatItem}
 use Rattle.dna_items.specs.declared.items.TplItem.{TplItem}
-use Rattle.dna_items.specs.Balance.{IsBalanced}
 use Rattle.dna_reader.specs.Reading.{Reading, Read, RanOut, rna_in}
 use Rattle.dna_reader.specs.Tables.{pattern_table, template_table, ReadsPattern, ReadsTemplate}
 use Rattle.dna_reader.proofs.ReadingLemmas.{has_reading, one_reading}
 use Rattle.dna_reader.proofs.TableLemmas.{pattern_fits, template_fits, patterns_are_balanced}
-use Rattle.matcher.specs.Match.{IsMatch, HasNoMatch, last_place}
+use Rattle.matcher.specs.Match.{IsMatch, last_place}
 use Rattle.matcher.specs.Groups.{AreGroups}
 use Rattle.replacer.specs.Replacement.{replaced}
 use Rattle.exec_loop.specs.Attempt.{Ending, Matched, NoMatch, TooLong, Finished, Attempt, ReadsBoth, PatternRanOut, TemplateRanOut, ReadingRanOut, FindsNone, Rewrites, EndsBy, IsAttempt}
 use Rattle.exec_loop.proofs.Matches.{match_is_one, match_or_none}
-use Rattle.exec_loop.proofs.Grouping.{groups_exist, groups_are_one}
+use Rattle.exec_loop.proofs.Grouping.{groups_exist}
+use Rattle.matcher.proofs.OpenGroups.{one_list_of_groups}
 
 -- there is an attempt
 
@@ -52,20 +52,38 @@ attempt_matched d limit pattern template pattern_rna template_rna middle rest re
     elim (cases_lt limit (length next)) [
       | inl above ↦ record {
         attempt = record { pattern = pattern; template = template; rna = pattern_rna ++ template_rna; ending = TooLong };
-        is = (last_place places, next, record {
-          rest = rest; places = places; groups = groups;
-          reads = both_read d pattern template pattern_rna template_rna middle rest TooLong reads_pattern reads_template;
-          match = match; stops = refl; grouped = grouped; puts = refl;
-        }, above);
+        is = (
+          last_place places,
+          next,
+          record {
+            rest = rest;
+            places = places;
+            groups = groups;
+            reads = both_read d pattern template pattern_rna template_rna middle rest TooLong reads_pattern reads_template;
+            match = match;
+            stops = refl;
+            grouped = grouped;
+            puts = refl;
+          },
+          above,
+        );
         gives = refl;
       }
       | inr within ↦ record {
         attempt = record { pattern = pattern; template = template; rna = pattern_rna ++ template_rna; ending = Matched (last_place places) next };
-        is = (record {
-          rest = rest; places = places; groups = groups;
-          reads = both_read d pattern template pattern_rna template_rna middle rest (Matched (last_place places) next) reads_pattern reads_template;
-          match = match; stops = refl; grouped = grouped; puts = refl;
-        }, within);
+        is = (
+          record {
+            rest = rest;
+            places = places;
+            groups = groups;
+            reads = both_read d pattern template pattern_rna template_rna middle rest (Matched (last_place places) next) reads_pattern reads_template;
+            match = match;
+            stops = refl;
+            grouped = grouped;
+            puts = refl;
+          },
+          within,
+        );
         gives = refl;
       }
     ]
@@ -76,8 +94,8 @@ pub attempt_read : (d : List Base) (limit : ℕ) (pattern : List PatItem) (templ
 attempt_read d limit pattern template pattern_rna template_rna middle rest reads_pattern reads_template =
     elim (match_or_none rest pattern) [
       | inl found ↦
-        let grouped : (groups : List (ℕ × ℕ)) × AreGroups pattern found.0 groups = groups_exist pattern found.0 (patterns_are_balanced d pattern pattern_rna middle reads_pattern) in
-        attempt_matched d limit pattern template pattern_rna template_rna middle rest reads_pattern reads_template found.0 found.1 grouped.0 grouped.1
+          let grouped : (groups : List (ℕ × ℕ)) × AreGroups pattern found.0 groups = groups_exist pattern found.0 (patterns_are_balanced d pattern pattern_rna middle reads_pattern) in
+          attempt_matched d limit pattern template pattern_rna template_rna middle rest reads_pattern reads_template found.0 found.1 grouped.0 grouped.1
       | inr none ↦ record {
         attempt = record { pattern = pattern; template = template; rna = pattern_rna ++ template_rna; ending = NoMatch rest };
         is = record { reads = both_read d pattern template pattern_rna template_rna middle rest (NoMatch rest) reads_pattern reads_template; none = none };
@@ -225,7 +243,7 @@ rewrite_is_one d a b stop stop' next next' x y =
     let stops : stop ≡ stop' = x.stops ∙ ap last_place places ∙ sym y.stops in
     let moved_groups : AreGroups a.pattern y.places y.groups = subst (λ p. AreGroups p y.places y.groups) (sym same.pattern) y.grouped in
     let grouped : AreGroups a.pattern x.places y.groups = subst (λ p. AreGroups a.pattern p y.groups) (sym places) moved_groups in
-    let groups : x.groups ≡ y.groups = groups_are_one a.pattern x.places x.groups y.groups x.grouped grouped in
+    let groups : x.groups ≡ y.groups = one_list_of_groups a.pattern x.places x.groups y.groups x.grouped grouped in
     record {
       same = same;
       same_stop = stops;

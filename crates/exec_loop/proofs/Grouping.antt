@@ -1,24 +1,17 @@
--- The groups of balanced items: there are such, and they are the only ones.
-use Rattle.std.proofs.Common.{◌≡◌, ℕ, zero, suc, ◌+◌, ◌-◌, ◌<◌, ◌≤◌, ◌⊎◌, inl, inr, Option, Some, None, List, [], ◌∷◌, ◌++◌, length, take, drop, get_or, arith, refl, sym, ap, subst, ◌∙◌}
+-- Balanced items have groups at every list of places.
+use Rattle.std.proofs.Common.{◌≡◌, ℕ, zero, suc, ◌+◌, ◌-◌, ◌<◌, ◌≤◌, inl, inr, Some, List, [], ◌∷◌, ◌++◌, length, take, drop, arith, refl, sym, ap, subst, ◌∙◌}
 use Rattle.std.specs.Prelude.{slice_get, slice_range, slice_index}
-use Rattle.std.proofs.lemmas.Bool.{cases_lt, cases_eq, cases_order}
+use Rattle.std.proofs.lemmas.Bool.{cases_lt, cases_eq}
 use Rattle.std.proofs.lemmas.List.{take_more, take_all, take-take, length-take, length-append}
 use Rattle.std.proofs.Math.Seq.{take-add}
-use Rattle.std.proofs.lemmas.Option.{none-some, same_Some, slice_get_within, slice_get_past, slice_get_cases, get_or_from_slice_get}
+use Rattle.std.proofs.lemmas.Option.{none-some, slice_get_within, slice_get_cases, get_or_from_slice_get}
+use Rattle.dna_items.proofs.Balances.{starts-append, stops-append}
 use Rattle.dna_items.specs.declared.items.PatItem.{PatItem}
 use Rattle.dna_items.specs.declared.items.PatItem.TheVariants.{Base as Literal, Skip, Search, GroupStart, GroupStop}
 use Rattle.dna_items.specs.Balance.{start_of, stop_of, starts, stops, IsBalanced}
 use Rattle.matcher.specs.Groups.{IsPartner, IsGroup, AreGroups}
 
 -- how many starts and ends a front has
-
-starts-append : (a b : List PatItem) → starts (a ++ b) ≡ starts a + starts b
-starts-append [] b = omega arith
-starts-append (x ∷ a) b = omega (arith, starts-append a b)
-
-stops-append : (a b : List PatItem) → stops (a ++ b) ≡ stops a + stops b
-stops-append [] b = omega arith
-stops-append (x ∷ a) b = omega (arith, stops-append a b)
 
 take_at : (items : List PatItem) (n : ℕ) (item : PatItem) → slice_get items n ≡ Some item → take (n + 1) items ≡ take n items ++ item ∷ []
 take_at items n item is =
@@ -54,40 +47,26 @@ fronts_of_range : (items : List PatItem) (a b : ℕ) → a ≤ b → ((j : ℕ) 
 fronts_of_range items a b order above n =
     elim (cases_lt (b - a) n) [
       | inl past ↦
-        let h : IsAbove items a b = above b order (omega arith) in
-        let h1 = h.above in
-        let same : take n (slice_range items a b) ≡ slice_range items a b = range_of_all items a b n (omega arith) in
-        rw same (omega (arith, h1, starts_range items a b order, stops_range items a b order))
+          let h : IsAbove items a b = above b order (omega arith) in
+          let h1 = h.above in
+          let same : take n (slice_range items a b) ≡ slice_range items a b = range_of_all items a b n (omega arith) in
+          rw same (omega (arith, h1, starts_range items a b order, stops_range items a b order))
       | inr within ↦
-        let h : IsAbove items a (a + n) = above (a + n) (omega arith) (omega arith) in
-        let h1 = h.above in
-        let same : take n (slice_range items a b) ≡ slice_range items a (a + n) = front_of_range items a b n within in
-        let grows : a ≤ a + n = omega arith in
-        rw same (omega (arith, h1, starts_range items a (a + n) grows, stops_range items a (a + n) grows))
+          let h : IsAbove items a (a + n) = above (a + n) (omega arith) (omega arith) in
+          let h1 = h.above in
+          let same : take n (slice_range items a b) ≡ slice_range items a (a + n) = front_of_range items a b n within in
+          let grows : a ≤ a + n = omega arith in
+          rw same (omega (arith, h1, starts_range items a (a + n) grows, stops_range items a (a + n) grows))
     ]
 
 balanced_range : (items : List PatItem) (a b : ℕ) → a ≤ b → IsAbove items b a → ((j : ℕ) → a ≤ j → j ≤ b → IsAbove items a j) → IsBalanced (slice_range items a b)
 balanced_range items a b order back above = record {
   even =
-    let h : IsAbove items a b = above b order (omega arith) in
-    let h1 = h.above in let h2 = back.above in
-    omega (arith, h1, h2, starts_range items a b order, stops_range items a b order);
+      let h : IsAbove items a b = above b order (omega arith) in
+      let h1 = h.above in let h2 = back.above in
+      omega (arith, h1, h2, starts_range items a b order, stops_range items a b order);
   fronts = fronts_of_range items a b order above;
 }
-
-range_is_above : (items : List PatItem) (a b j : ℕ) → IsBalanced (slice_range items a b) → a ≤ j → j ≤ b → IsAbove items a j
-range_is_above items a b j balanced low high =
-    let h : stops (take (j - a) (slice_range items a b)) ≤ starts (take (j - a) (slice_range items a b)) = balanced.fronts (j - a) in
-    let e : a + (j - a) ≡ j = omega arith in
-    let same : take (j - a) (slice_range items a b) ≡ slice_range items a j =
-    front_of_range items a b (j - a) (omega arith) ∙ ap (slice_range items a) e in
-    let h2 : stops (slice_range items a j) ≤ starts (slice_range items a j) = rw same at h in
-    record { above = omega (arith, h2, starts_range items a j low, stops_range items a j low) }
-
-range_is_even : (items : List PatItem) (a b : ℕ) → a ≤ b → IsBalanced (slice_range items a b) → starts (take a items) + stops (take b items) ≡ stops (take a items) + starts (take b items)
-range_is_even items a b order balanced =
-    let h : starts (slice_range items a b) ≡ stops (slice_range items a b) = balanced.even in
-    omega (arith, h, starts_range items a b order, stops_range items a b order)
 
 -- there is a partner
 
@@ -126,9 +105,9 @@ start_here items stop k before over below =
     elim (slice_get_cases items k).1 [
       | inl found ↦ start_is items stop k found.0 before found.2 over below
       | inr past ↦
-        let h : IsAbove items stop (k + 1) = over (k + 1) (omega arith) (omega arith) in
-        let same : take (k + 1) items ≡ take k items = past_is_same items k past.0 in
-        absurd (omega (arith, h.above, ap starts same, ap stops same))
+          let h : IsAbove items stop (k + 1) = over (k + 1) (omega arith) (omega arith) in
+          let same : take (k + 1) items ≡ take k items = past_is_same items k past.0 in
+          absurd (omega (arith, h.above, ap starts same, ap stops same))
     ]
 
 over_more : (items : List PatItem) (stop k : ℕ) → IsAbove items stop k → ((j : ℕ) → k + 1 ≤ j → j ≤ stop → IsAbove items stop j) → (j : ℕ) → k ≤ j → j ≤ stop → IsAbove items stop j
@@ -174,22 +153,6 @@ partner items stop balanced ends =
     find_start items stop stop (omega arith) (λ j low high. let same : stop ≡ j = omega arith in subst (λ n. IsAbove items stop n) same (above_self items stop)) (opened_at items stop balanced ends) in
     (found.0, partner_of items stop found.0 ends found.1)
 
--- and only one
-
-not_before : (items : List PatItem) (a b stop : ℕ) → IsPartner items a stop → IsPartner items b stop → a < b → ⊥
-not_before items a b stop x y order =
-    let hx : a < stop = x.before in let hy : b < stop = y.before in
-    let over : IsAbove items (a + 1) b = range_is_above items (a + 1) stop b x.between (omega arith) (omega arith) in
-    omega (arith, over.above, range_is_even items (a + 1) stop (omega arith) x.between, range_is_even items (b + 1) stop (omega arith) y.between, starts_at items b GroupStart y.starts, stops_at items b GroupStart y.starts)
-
-pub partner_is_one : (items : List PatItem) (a b stop : ℕ) → IsPartner items a stop → IsPartner items b stop → a ≡ b
-partner_is_one items a b stop x y =
-    elim (cases_order a b) [
-      | inl same ↦ same
-      | inr (inl before) ↦ absurd (not_before items a b stop x y before)
-      | inr (inr after) ↦ absurd (not_before items b a stop y x after)
-    ]
-
 -- there are groups
 
 slice_get-append_left : {X : Type 0} (xs ys : List X) (n : ℕ) (x : X) → slice_get xs n ≡ Some x → slice_get (xs ++ ys) n ≡ Some x
@@ -216,10 +179,10 @@ no_more_groups items places n front same other = record {
   groups = front.groups;
   number = front.number ∙ sym same;
   each = λ stop before ends.
-    elim (cases_eq stop n) [
-      | inl here ↦ absurd (other (subst (λ m. slice_get items m ≡ Some GroupStop) here ends))
-      | inr earlier ↦ front.each stop (omega arith) ends
-    ];
+      elim (cases_eq stop n) [
+        | inl here ↦ absurd (other (subst (λ m. slice_get items m ≡ Some GroupStop) here ends))
+        | inr earlier ↦ front.each stop (omega arith) ends
+      ];
 }
 
 group_here : (items : List PatItem) (places : List ℕ) (n : ℕ) (front : GroupsOfFront items places n) (start : ℕ) → IsPartner items start n → IsGroup items places (front.groups ++ (slice_index places start, slice_index places n) ∷ []) n
@@ -235,10 +198,10 @@ one_more_group items places n balanced front ends =
       groups = front.groups ++ range ∷ [];
       number = omega (arith, length-append front.groups (range ∷ []), front.number, stops_at items n GroupStop ends);
       each = λ stop before ends_here.
-        elim (cases_eq stop n) [
-          | inl here ↦ subst (λ m. IsGroup items places (front.groups ++ range ∷ []) m) (sym here) (group_here items places n front found.0 found.1)
-          | inr earlier ↦ group_stays items places front.groups (range ∷ []) stop (front.each stop (omega arith) ends_here)
-        ];
+          elim (cases_eq stop n) [
+            | inl here ↦ subst (λ m. IsGroup items places (front.groups ++ range ∷ []) m) (sym here) (group_here items places n front found.0 found.1)
+            | inr earlier ↦ group_stays items places front.groups (range ∷ []) stop (front.each stop (omega arith) ends_here)
+          ];
     }
 
 groups_after : (items : List PatItem) (places : List ℕ) (n : ℕ) (item : PatItem) → IsBalanced items → GroupsOfFront items places n → slice_get items n ≡ Some item → GroupsOfFront items places (n + 1)
@@ -260,49 +223,10 @@ groups_of_front items places (suc n) balanced =
 
 pub groups_exist : (items : List PatItem) (places : List ℕ) → IsBalanced items → (groups : List (ℕ × ℕ)) × AreGroups items places groups
 groups_exist items places balanced =
-    let all : GroupsOfFront items places (length items) = groups_of_front items places (length items) balanced in
-    (all.groups, record {
-      number = all.number ∙ ap stops (take_all (length items) items (omega arith));
-      each = λ stop ends. all.each stop (slice_get_within items stop GroupStop ends) ends;
-    })
-
--- and no others
-
-find_stop : (items : List PatItem) (k : ℕ) → k < stops items → (stop : ℕ) × (slice_get items stop ≡ Some GroupStop) × (stops (take stop items) ≡ k)
-find_stop [] k within = absurd (omega arith)
-find_stop (Literal b ∷ items) k within =
-    let found : (stop : ℕ) × (slice_get items stop ≡ Some GroupStop) × (stops (take stop items) ≡ k) = find_stop items k (omega arith) in (suc found.0, found.1, (let e = found.2 in omega arith))
-find_stop (Skip n ∷ items) k within =
-    let found : (stop : ℕ) × (slice_get items stop ≡ Some GroupStop) × (stops (take stop items) ≡ k) = find_stop items k (omega arith) in (suc found.0, found.1, (let e = found.2 in omega arith))
-find_stop (Search s ∷ items) k within =
-    let found : (stop : ℕ) × (slice_get items stop ≡ Some GroupStop) × (stops (take stop items) ≡ k) = find_stop items k (omega arith) in (suc found.0, found.1, (let e = found.2 in omega arith))
-find_stop (GroupStart ∷ items) k within =
-    let found : (stop : ℕ) × (slice_get items stop ≡ Some GroupStop) × (stops (take stop items) ≡ k) = find_stop items k (omega arith) in (suc found.0, found.1, (let e = found.2 in omega arith))
-find_stop (GroupStop ∷ items) zero within = (0, refl, refl)
-find_stop (GroupStop ∷ items) (suc k) within =
-    let found : (stop : ℕ) × (slice_get items stop ≡ Some GroupStop) × (stops (take stop items) ≡ k) = find_stop items k (omega arith) in (suc found.0, found.1, (let e = found.2 in omega arith))
-
-same_elements : {X : Type 0} (xs ys : List X) → ((k : ℕ) → slice_get xs k ≡ slice_get ys k) → xs ≡ ys
-same_elements [] [] same = refl
-same_elements [] (y ∷ ys) same = absurd (none-some y (same 0))
-same_elements (x ∷ xs) [] same = absurd (none-some x (sym (same 0)))
-same_elements (x ∷ xs) (y ∷ ys) same =
-    ap (λ z. z ∷ xs) (same_Some x y (same 0)) ∙ ap (λ l. y ∷ l) (same_elements xs ys (λ k. same (suc k)))
-
-same_group : (items : List PatItem) (places : List ℕ) (a b : List (ℕ × ℕ)) (stop : ℕ) → IsGroup items places a stop → IsGroup items places b stop → slice_get a (stops (take stop items)) ≡ slice_get b (stops (take stop items))
-same_group items places a b stop x y =
-    let same : x.0 ≡ y.0 = partner_is_one items x.0 y.0 stop x.1 y.1 in
-    x.2 ∙ ap (λ start. Some (slice_index places start, slice_index places stop)) same ∙ sym y.2
-
-pub groups_are_one : (items : List PatItem) (places : List ℕ) (a b : List (ℕ × ℕ)) → AreGroups items places a → AreGroups items places b → a ≡ b
-groups_are_one items places a b x y =
-    same_elements a b (λ k.
-      elim (cases_lt k (stops items)) [
-        | inl within ↦
-          let found : (stop : ℕ) × (slice_get items stop ≡ Some GroupStop) × (stops (take stop items) ≡ k) = find_stop items k within in
-          subst (λ n. slice_get a n ≡ slice_get b n) found.2 (same_group items places a b found.0 (x.each found.0 found.1) (y.each found.0 found.1))
-        | inr past ↦
-          let in_a : length a ≤ k = omega (arith, x.number) in
-          let in_b : length b ≤ k = omega (arith, y.number) in
-          slice_get_past a k in_a ∙ sym (slice_get_past b k in_b)
-      ])
+    let all : GroupsOfFront items places (length items) = groups_of_front items places (length items) balanced in (
+      all.groups,
+      record {
+        number = all.number ∙ ap stops (take_all (length items) items (omega arith));
+        each = λ stop ends. all.each stop (slice_get_within items stop GroupStop ends) ends;
+      },
+    )

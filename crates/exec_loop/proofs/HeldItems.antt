@@ -1,11 +1,11 @@
 -- Items act as they are held: on DNA of fewer than 2^63 bases, and under limits of at most 2^40.
-use Rattle.std.proofs.Common.{◌≡◌, ℕ, zero, suc, ◌+◌, ◌*◌, ◌-◌, ◌^◌, ◌<◌, ◌≤◌, ◌⊎◌, inl, inr, Option, Some, None, List, [], ◌∷◌, ◌++◌, length, take, drop, map, min, arith, refl, sym, ap, subst, ◌∙◌}
+use Rattle.std.proofs.Common.{◌≡◌, ℕ, zero, suc, ◌+◌, ◌*◌, ◌-◌, ◌^◌, ◌<◌, ◌≤◌, ◌⊎◌, inl, inr, Some, List, [], ◌∷◌, ◌++◌, length, take, drop, map, arith, refl, sym, ap, subst, ◌∙◌}
 use Rattle.std.specs.Prelude.{slice_get, slice_range, slice_index, unwrap_or}
 use Rattle.std.specs.Option.{option_map}
-use Rattle.std.specs.List.{flat_map, take-map, drop-map}
+use Rattle.std.specs.List.{take-map, drop-map}
 use Rattle.std.proofs.lemmas.Bool.{cases_lt}
 use Rattle.std.proofs.lemmas.List.{drop-drop, length-map, length-append}
-use Rattle.std.proofs.lemmas.Option.{none-some, same_Some, slice_get_past, slice_get-map}
+use Rattle.std.proofs.lemmas.Option.{same_Some, slice_get_past, slice_get-map}
 use Rattle.fuun_base.specs.declared.letters.Base.{Base}
 use Rattle.fuun_base.specs.Quote.{protect, asnat}
 use Rattle.fuun_base.proofs.QuoteLemmas.{protect_four, protect-protect, protect_of-nil, length-protect_ge}
@@ -101,8 +101,8 @@ pub balanced_held : (items : List PatItem) → IsBalanced (held_pattern items) �
 balanced_held items x = record {
   even = sym (starts-held items) ∙ x.even ∙ stops-held items;
   fronts = λ n.
-    let h : stops (held_pattern (take n items)) ≤ starts (held_pattern (take n items)) = subst (λ l. stops l ≤ starts l) (take-held n items) (x.fronts n) in
-    omega (arith, h, starts-held (take n items), stops-held (take n items));
+      let h : stops (held_pattern (take n items)) ≤ starts (held_pattern (take n items)) = subst (λ l. stops l ≤ starts l) (take-held n items) (x.fronts n) in
+      omega (arith, h, starts-held (take n items), stops-held (take n items));
 }
 
 item_stops : (item : PatItem) → held_pattern_item item ≡ GroupStop → item ≡ GroupStop
@@ -150,16 +150,6 @@ groups_held items places groups x = record {
   number = x.number ∙ stops-held items;
   each = λ stop ends. group_held items places groups stop (x.each stop (stop_is_held items stop ends));
 }
-
--- no more groups than items
-
-pub stops-le : (items : List PatItem) → stops items ≤ length items
-stops-le [] = omega arith
-stops-le (Literal b ∷ items) = omega (arith, stops-le items)
-stops-le (Skip n ∷ items) = omega (arith, stops-le items)
-stops-le (Search s ∷ items) = omega (arith, stops-le items)
-stops-le (GroupStart ∷ items) = omega (arith, stops-le items)
-stops-le (GroupStop ∷ items) = omega (arith, stops-le items)
 
 -- levels
 
@@ -223,11 +213,11 @@ level_alike level d =
       | inr small ↦ inl (ap (λ n. protect n d) (held_small level small))
       | inl great ↦ elim (cases_lt 0 (length d)) [
         | inl some ↦
-          let is : held level ≡ 2 ^ 63 = held_great level (omega arith) in
-          inr (long_by_level (held level) d (omega arith) some, long_by_level level d (omega arith) some)
+            let is : held level ≡ 2 ^ 63 = held_great level (omega arith) in
+            inr (long_by_level (held level) d (omega arith) some, long_by_level level d (omega arith) some)
         | inr none ↦
-          let empty : d ≡ [] = none_of_length d (omega arith) in
-          inl (subst (λ e. protect (held level) e ≡ protect level e) (sym empty) (protect_of-nil (held level) ∙ sym (protect_of-nil level)))
+            let empty : d ≡ [] = none_of_length d (omega arith) in
+            inl (subst (λ e. protect (held level) e ≡ protect level e) (sym empty) (protect_of-nil (held level) ∙ sym (protect_of-nil level)))
       ]
     ]
 
@@ -236,10 +226,10 @@ text_held texts n few =
     elim (cases_lt (2 ^ 63) n) [
       | inr small ↦ ap (text_of texts) (held_small n small)
       | inl great ↦
-        let is : held n ≡ 2 ^ 63 = held_great n (omega arith) in
-        let here : length texts ≤ held n = omega arith in
-        let there : length texts ≤ n = omega arith in
-        ap (λ o. unwrap_or o []) (slice_get_past texts (held n) here) ∙ sym (ap (λ o. unwrap_or o []) (slice_get_past texts n there))
+          let is : held n ≡ 2 ^ 63 = held_great n (omega arith) in
+          let here : length texts ≤ held n = omega arith in
+          let there : length texts ≤ n = omega arith in
+          ap (λ o. unwrap_or o []) (slice_get_past texts (held n) here) ∙ sym (ap (λ o. unwrap_or o []) (slice_get_past texts n there))
     ]
 
 put_alike : (texts : List (List Base)) (item : TplItem) → length texts < 2 ^ 63 → IsAlike (put_by texts (held_template_item item)) (put_by texts item)

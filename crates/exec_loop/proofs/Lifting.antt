@@ -1,5 +1,5 @@
 -- From items as they are held to the attempt.
-use Rattle.std.proofs.Common.{◌≡◌, ℕ, ◌+◌, ◌-◌, ◌^◌, ◌<◌, ◌≤◌, ◌⊎◌, inl, inr, Option, Some, None, List, [], ◌∷◌, ◌++◌, length, drop, map, arith, refl, sym, ap, subst, ◌∙◌}
+use Rattle.std.proofs.Common.{◌≡◌, ℕ, ◌+◌, ◌^◌, ◌<◌, ◌≤◌, inl, inr, Option, Some, List, ◌++◌, length, drop, map, arith, refl, sym, ap, subst, ◌∙◌}
 use Rattle.std.specs.Prelude.{unwrap_or}
 use Rattle.std.proofs.lemmas.List.{length-drop, length-map}
 use Rattle.fuun_base.specs.declared.letters.Base.{Base}
@@ -8,7 +8,8 @@ use Rattle.dna_items.specs.declared.items.TplItem.{TplItem}
 use Rattle.dna_items.specs.Held.{held_pattern, held_template}
 use Rattle.dna_reader.specs.Reading.{Read}
 use Rattle.dna_reader.specs.Tables.{ReadsPattern, ReadsTemplate}
-use Rattle.matcher.specs.Match.{IsMatch, HasNoMatch, last_place}
+use Rattle.matcher.specs.Match.{last_place}
+use Rattle.matcher.proofs.OpenGroups.{stops_most}
 use Rattle.matcher.specs.Groups.{AreGroups}
 use Rattle.matcher.specs.Found.{MatchesAt, moved}
 use Rattle.replacer.specs.Replacement.{replaced}
@@ -17,7 +18,7 @@ use Rattle.exec_loop.specs.declared.machine.Outcome.TheVariants as outcome
 use Rattle.exec_loop.specs.Attempt.{Ending, Matched, NoMatch, TooLong, Finished, Attempt, ReadsBoth, Rewrites, EndsBy, IsAttempt, next_dna}
 use Rattle.exec_loop.specs.Steps.{outcome_of, dna_behind}
 use Rattle.exec_loop.specs.Rewriting.{ReplacesAt, ComesTo}
-use Rattle.exec_loop.proofs.HeldItems.{match_held, none_held, groups_held, stops-le, IsAlike, replaced_alike, replaced_moved}
+use Rattle.exec_loop.proofs.HeldItems.{match_held, none_held, groups_held, IsAlike, replaced_alike, replaced_moved}
 
 -- an attempt of these items that is reported by this outcome
 pub record IsLifted (d : List Base) (limit : ℕ) (items : List PatItem) (puts : List TplItem) (rna : List (List Base)) (outcome : Outcome) (next : Option (List Base)) : Type 0 where
@@ -38,7 +39,6 @@ behind_is d Finished = refl
 module _ (d : List Base) (items : List PatItem) (puts : List TplItem) (pattern_rna template_rna : List (List Base)) (middle : List Base) (place : ℕ)
     (reads_pattern : ReadsPattern d (Read items pattern_rna middle)) (reads_template : ReadsTemplate middle (Read puts template_rna (drop place d)))
     (small : length d < 2 ^ 63) (few : length items ≤ length d) where
-
   attempt_by : Ending → Attempt
   attempt_by ending = record { pattern = items; template = puts; rna = pattern_rna ++ template_rna; ending = ending }
 
@@ -58,7 +58,7 @@ module _ (d : List Base) (items : List PatItem) (puts : List TplItem) (pattern_r
 
   -- the groups are few
   few_groups : (places : List ℕ) (ranges : List (ℕ × ℕ)) → AreGroups items places ranges → length (map (moved place) ranges) < 2 ^ 63
-  few_groups places ranges grouped = let number = grouped.number in omega (arith, length-map ranges (moved place), number, stops-le items)
+  few_groups places ranges grouped = let number = grouped.number in omega (arith, length-map ranges (moved place), number, stops_most items)
 
   -- with the numbers as they were read
   record TrueReplacement (stop : ℕ) : Type 0 where

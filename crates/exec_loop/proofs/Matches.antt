@@ -1,42 +1,15 @@
 -- A pattern has one match on a DNA at most, and it is decided whether it has one.
-use Rattle.std.proofs.Common.{◌≡◌, ℕ, zero, suc, ◌+◌, ◌<◌, ◌≤◌, ◌⊎◌, inl, inr, Option, Some, None, List, [], ◌∷◌, length, arith, refl, sym, ap, subst, ◌∙◌}
+use Rattle.std.proofs.Common.{◌≡◌, ℕ, zero, suc, ◌+◌, ◌<◌, ◌≤◌, ◌⊎◌, inl, inr, Some, List, [], ◌∷◌, length, arith, refl, sym, ap, subst, ◌∙◌}
 use Rattle.std.specs.Prelude.{slice_get, slice_range}
-use Rattle.std.proofs.lemmas.Bool.{cases_lt, cases_order, cases_eq}
+use Rattle.std.proofs.lemmas.Bool.{cases_lt, cases_eq}
 use Rattle.std.proofs.lemmas.Option.{none-some, same_Some}
 use Rattle.fuun_base.specs.declared.letters.Base.{Base}
 use Rattle.fuun_base.specs.declared.letters.Base.TheVariants.{I, C, F, P}
 use Rattle.fuun_base.specs.Occurrence.{Stands, IsFirst, IsAbsent}
 use Rattle.dna_items.specs.declared.items.PatItem.{PatItem}
 use Rattle.dna_items.specs.declared.items.PatItem.TheVariants.{Base as Literal, Skip, Search, GroupStart, GroupStop}
-use Rattle.matcher.specs.Match.{Leads, LeadThrough, IsMatch, last_place, HasNoMatch}
-
--- an item leads from a place to one place at most
-
-pub first_is_one : (s d : List Base) (from a b : ℕ) → IsFirst s d from a → IsFirst s d from b → a ≡ b
-first_is_one s d from a b x y =
-    elim (cases_order a b) [
-      | inl same ↦ same
-      | inr (inl before) ↦ absurd (y.least a x.after before x.stands)
-      | inr (inr after) ↦ absurd (x.least b y.after after y.stands)
-    ]
-
-pub leads_to_one : (d : List Base) (item : PatItem) (i j k : ℕ) → Leads d item i j → Leads d item i k → j ≡ k
-leads_to_one d (Literal b) i j k x y = x.1 ∙ sym y.1
-leads_to_one d (Skip n) i j k x y = x.0 ∙ sym y.0
-leads_to_one d (Search s) i j k x y = x.2 ∙ ap (λ n. n + length s) (first_is_one s d i x.0 y.0 x.1 y.1) ∙ sym y.2
-leads_to_one d GroupStart i j k x y = x ∙ sym y
-leads_to_one d GroupStop i j k x y = x ∙ sym y
-
-pub through_is_one : (d : List Base) (items : List PatItem) (i : ℕ) (a b : List ℕ) → LeadThrough d items i a → LeadThrough d items i b → a ≡ b
-through_is_one d [] i [] [] x y = refl
-through_is_one d [] i [] (k ∷ b) x y = absurd y
-through_is_one d [] i (j ∷ a) b x y = absurd x
-through_is_one d (item ∷ items) i [] b x y = absurd x
-through_is_one d (item ∷ items) i (j ∷ a) [] x y = absurd y
-through_is_one d (item ∷ items) i (j ∷ a) (k ∷ b) x y =
-    let same : j ≡ k = leads_to_one d item i j k x.0 y.0 in
-    let from_j : LeadThrough d items j b = subst (λ n. LeadThrough d items n b) (sym same) y.1 in
-    ap (λ n. n ∷ a) same ∙ ap (λ l. k ∷ l) (through_is_one d items j a b x.1 from_j)
+use Rattle.matcher.proofs.Places.{leads_same, through_same}
+use Rattle.matcher.specs.Match.{Leads, LeadThrough, IsMatch, HasNoMatch}
 
 pub match_is_one : (d : List Base) (items : List PatItem) (a b : List ℕ) → IsMatch d items a → IsMatch d items b → a ≡ b
 match_is_one d items [] b x y = absurd x
@@ -44,7 +17,7 @@ match_is_one d items (i ∷ a) [] x y = absurd y
 match_is_one d items (i ∷ a) (k ∷ b) x y =
     let same : i ≡ k = x.0 ∙ sym y.0 in
     let from_i : LeadThrough d items i b = subst (λ n. LeadThrough d items n b) (sym same) y.1 in
-    ap (λ n. n ∷ a) same ∙ ap (λ l. k ∷ l) (through_is_one d items i a b x.1 from_i)
+    ap (λ n. n ∷ a) same ∙ ap (λ l. k ∷ l) (through_same d items i a b x.1 from_i)
 
 -- whether an item leads anywhere
 
@@ -167,7 +140,7 @@ nowhere_first d item items i none (j ∷ places) x = none j x.0
 nowhere_then : (d : List Base) (item : PatItem) (items : List PatItem) (i j : ℕ) → Leads d item i j → ThroughNowhere d items j → ThroughNowhere d (item ∷ items) i
 nowhere_then d item items i j leads none [] x = x
 nowhere_then d item items i j leads none (k ∷ places) x =
-    none places (subst (λ n. LeadThrough d items n places) (leads_to_one d item i k j x.0 leads) x.1)
+    none places (subst (λ n. LeadThrough d items n places) (leads_same d item i k j x.0 leads) x.1)
 
 through_or : (d : List Base) (items : List PatItem) (i : ℕ) → ThroughSomewhere d items i ⊎ ThroughNowhere d items i
 through_or d [] i = inl ([], tt)

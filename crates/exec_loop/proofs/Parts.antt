@@ -1,5 +1,5 @@
 -- From the parts of an attempt to the whole.
-use Rattle.std.proofs.Common.{◌≡◌, ℕ, ◌+◌, ◌-◌, ◌^◌, ◌<◌, ◌≤◌, inl, inr, Option, Some, None, List, [], ◌++◌, length, drop, arith, refl, sym, ap, subst, ◌∙◌, append-nil}
+use Rattle.std.proofs.Common.{◌≡◌, ℕ, ◌+◌, ◌-◌, ◌^◌, ◌≤◌, inr, Option, Some, None, List, [], ◌++◌, length, drop, arith, refl, sym, ap, subst, ◌∙◌, append-nil}
 use Rattle.std.specs.Prelude.{unwrap_or, Result, Ok, Err, IfOk, OnErr}
 use Rattle.std.specs.Option.{option_map}
 use Rattle.std.proofs.lemmas.List.{length-map}
@@ -16,9 +16,9 @@ use Rattle.exec_loop.specs.declared.machine.Outcome.{Outcome}
 use Rattle.exec_loop.specs.declared.machine.Outcome.TheVariants as outcome
 use Rattle.exec_loop.specs.declared.machine.Report.{Report}
 use Rattle.exec_loop.specs.declared.machine.StepError.{StepError}
-use Rattle.exec_loop.specs.Attempt.{Ending, Finished, Attempt, IsAttempt, next_dna}
+use Rattle.exec_loop.specs.Attempt.{Finished}
 use Rattle.exec_loop.specs.State.{State, IsLimited}
-use Rattle.exec_loop.specs.Steps.{dna_behind, MakesAttempt, StandsWithinAttempt}
+use Rattle.exec_loop.specs.Steps.{MakesAttempt, StandsWithinAttempt}
 use Rattle.exec_loop.specs.Readings.{BothAreRead, OneRanOut}
 use Rattle.exec_loop.specs.Rewriting.{ReplacesAt, ComesTo, ComesToState}
 use Rattle.exec_loop.proofs.Attempts.{AttemptWith, AttemptOf, attempt_of_pattern, attempt_of_template, attempt_read}
@@ -46,7 +46,6 @@ abbrev state : List Base → ℕ → State
 state d limit = record { dna = d; limit = limit }
 
 module _ {Taker : Type 0} (follows within : Taker → List (List Base) → Taker → Type 0) (d : List Base) (limit : ℕ) where
-
   pub within_pattern : Widens within → (old new : Taker) → StandsWithin ReadsPattern within old new d → StandsWithinAttempt within old new (state d limit)
   within_pattern widens old new x =
       let made : AttemptWith d limit (rna_in x.reading) = attempt_of_pattern d limit x.reading x.is in
@@ -156,7 +155,6 @@ replaces_at d place pattern template stop groups next x puts =
 
 module _ {S : Type 0} (bases : S → List Base) (old new : State) (d : List Base) (limit place : ℕ) (pattern : List PatItem) (template : List TplItem) (outcome : Outcome) (next : Option S) (was : old ≡ state d limit)
     (comes : ComesTo d place limit pattern template outcome (option_map bases next)) where
-
   comes_to : ComesTo old.dna place old.limit pattern template outcome (option_map bases next)
   comes_to = subst (λ (s : State). ComesTo s.dna place s.limit pattern template outcome (option_map bases next)) (sym was) comes
 
@@ -177,7 +175,6 @@ module _ {S : Type 0} (bases : S → List Base) (old new : State) (d : List Base
   }
 
 module _ {Taker : Type 0} (follows within : Taker → List (List Base) → Taker → Type 0) (before after : State) (d : List Base) (is : before.dna ≡ d) (limited : IsLimited before) (old new : Taker) where
-
   pub step_ok : (pattern : List PatItem) (template : List TplItem) (place : ℕ) (result : Result Report StepError)
       → BothAreRead follows old new d pattern template place → length pattern ≤ length d
       → IfOk result (λ report. ComesToState before after place pattern template report.outcome)

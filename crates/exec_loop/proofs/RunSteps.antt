@@ -1,13 +1,12 @@
 -- A run, attempt by attempt.
-use Rattle.std.proofs.Common.{◌≡◌, ◌≢◌, ℕ, ◌+◌, ◌-◌, ◌*◌, ◌^◌, ◌<◌, ◌≤◌, Option, Some, None, List, [], ◌∷◌, ◌++◌, length, arith, refl, sym, ap, subst, ◌∙◌, append-nil, append_assoc, length-append}
+use Rattle.std.proofs.Common.{◌≡◌, ℕ, ◌+◌, ◌-◌, ◌*◌, ◌^◌, ◌<◌, ◌≤◌, Some, None, List, [], ◌∷◌, ◌++◌, length, arith, refl, sym, ap, subst, ◌∙◌, append-nil, append_assoc, length-append}
 use Rattle.std.proofs.lemmas.Option.{none-some, same_Some}
 use Rattle.fuun_base.specs.declared.letters.Base.{Base}
-use Rattle.exec_loop.specs.declared.machine.Outcome.{Outcome}
 use Rattle.exec_loop.specs.declared.machine.Report.{Report}
 use Rattle.exec_loop.specs.declared.machine.RunEnd.{RunEnd}
 use Rattle.exec_loop.specs.declared.machine.RunEnd.TheVariants.{Budget}
 use Rattle.exec_loop.specs.Attempt.{Ending, Matched, NoMatch, TooLong, Finished, Attempt, IsAttempt, next_dna}
-use Rattle.exec_loop.specs.Run.{Leads, rna_of, Run, SpendsBudget, StopsAt, RunsTo, IsRun}
+use Rattle.exec_loop.specs.Run.{Leads, rna_of, Run, StopsAt, RunsTo, IsRun}
 use Rattle.exec_loop.specs.State.{State, IsLimited}
 use Rattle.exec_loop.specs.Steps.{outcome_of, dna_behind, MakesAttempt, StandsWithinAttempt, MakesRun, BreaksOff}
 use Rattle.exec_loop.specs.RunEnds.{run_end}
@@ -54,7 +53,6 @@ pub record IsMade {Taker : Type 0} (follows : Taker → List (List Base) → Tak
   pub few : taken new_taker ≤ taken old_taker + 2 ^ 41 * number
 
 module _ {Taker : Type 0} (follows within : Taker → List (List Base) → Taker → Type 0) (faults taken : Taker → ℕ) where
-
   pub none_made : ((a : Taker) → follows a [] a) → (taker : Taker) (state : State) → IsLimited state → IsMade follows faults taken taker taker state state 0
   none_made stays taker state limited = record {
     attempts = [];
@@ -139,5 +137,5 @@ module _ {Taker : Type 0} (follows within : Taker → List (List Base) → Taker
         front = whole.attempts;
         leads = subst (λ (s : State). Leads old.limit old.dna made.attempts s.dna) (sym same) made.leads;
         stands = subst (λ l. within old_taker l new_taker) rna
-        (goes_within old_taker taker new_taker (rna_of made.attempts) (part.attempt.rna ++ rest.more) made.gave (widens taker new_taker part.attempt.rna rest.more part.stands));
+            (goes_within old_taker taker new_taker (rna_of made.attempts) (part.attempt.rna ++ rest.more) made.gave (widens taker new_taker part.attempt.rna rest.more part.stands));
       }

@@ -1,20 +1,18 @@
 -- The attempts that were worked out by hand are attempts.
-use Rattle.std.proofs.Common.{◌≡◌, ℕ, zero, suc, ◌≤◌, Some, List, [], ◌∷◌, length, take, arith, inl, refl, sym}
+use Rattle.std.proofs.Common.{◌≡◌, ℕ, zero, suc, ◌≤◌, Some, List, [], ◌∷◌, take, arith, inl, refl}
 use Rattle.std.specs.Prelude.{slice_get}
 use Rattle.std.proofs.lemmas.Option.{none-some}
 use Rattle.fuun_base.specs.Quote.{protect}
 use Rattle.fuun_base.specs.declared.letters.Base.{Base}
 use Rattle.fuun_base.specs.declared.letters.Base.TheVariants.{I, C, F, P}
-use Rattle.dna_items.specs.declared.items.PatItem.{PatItem}
-use Rattle.dna_items.specs.declared.items.PatItem.TheVariants.{Base as Literal, Skip, GroupStart, GroupStop}
-use Rattle.dna_items.specs.declared.items.TplItem.TheVariants.{Base as TplLiteral, Group}
+use Rattle.dna_items.specs.declared.items.PatItem.TheVariants.{Skip, GroupStart, GroupStop}
 use Rattle.dna_items.specs.Balance.{starts, stops}
-use Rattle.dna_reader.specs.Reading.{Read, RanOut}
+use Rattle.dna_reader.specs.Reading.{Read}
 use Rattle.dna_reader.specs.Tables.{pattern_table, template_table, ReadsPattern, ReadsTemplate}
 use Rattle.dna_reader.proofs.ReadingLemmas.{reads_computed}
 use Rattle.dna_reader.proofs.TableLemmas.{pattern_fits, template_fits}
-use Rattle.matcher.specs.Match.{IsMatch, HasNoMatch}
-use Rattle.matcher.specs.Groups.{IsGroup, AreGroups}
+use Rattle.matcher.specs.Match.{HasNoMatch}
+use Rattle.matcher.specs.Groups.{IsGroup}
 use Rattle.exec_loop.specs.Attempt.{IsAttempt}
 use Rattle.exec_loop.specs.Worked.{matching_dna, matching_attempt, failing_dna, failing_attempt, finishing_dna, finishing_attempt}
 

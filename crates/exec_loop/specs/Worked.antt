@@ -1,10 +1,10 @@
 -- Attempts that were worked out by hand.
-use Rattle.std.specs.Prelude.{ℕ, List, [], ◌∷◌}
+use Rattle.std.specs.Prelude.{List, [], ◌∷◌}
 use Rattle.fuun_base.specs.declared.letters.Base.{Base}
 use Rattle.fuun_base.specs.declared.letters.Base.TheVariants.{I, C, F, P}
 use Rattle.dna_items.specs.declared.items.PatItem.TheVariants.{Base as Literal, Skip, GroupStart, GroupStop}
 use Rattle.dna_items.specs.declared.items.TplItem.TheVariants.{Base as TplLiteral, Group}
-use Rattle.exec_loop.specs.Attempt.{Matched, NoMatch, Finished, Attempt, IsAttempt}
+use Rattle.exec_loop.specs.Attempt.{Matched, NoMatch, Finished, Attempt}
 
 -- the pattern (!2)P and the template PI{0,0}, and then CFPC
 abbrev pub matching_dna : List Base

@@ -19,7 +19,11 @@ pub(crate) struct Items {
 }
 
 /// Reads a pattern and then a template from the front of the DNA. Their RNA goes to the taker.
-pub(crate) fn read_both<S: Strand, T: RnaTaker>(alloc: Global, dna: &S, rna: &mut T) -> Result<Items, ReadingError>
+pub(crate) fn read_both<S: Strand, T: RnaTaker>(
+    alloc: Global,
+    dna: &S,
+    rna: &mut T,
+) -> Result<Items, ReadingError>
     requires { T.taken rna.old ≤ 2 ^ 98 }
 
     ensures read { IfOk result (λ read. BothAreRead T.follows rna.old rna.new (S.bases dna.now) read.pattern read.template read.place) }

@@ -21,7 +21,13 @@ pub(crate) struct Rewriting<S: Strand> {
 }
 
 /// Matches the items on what the DNA holds behind them, and makes the next DNA.
-pub(crate) fn rewrite<S: Strand, L: Ledger>(alloc: Global, dna: &S, limit: u64, items: &Items, steps: &mut Steps<L>) -> Result<Rewriting<S>, NoMemory>
+pub(crate) fn rewrite<S: Strand, L: Ledger>(
+    alloc: Global,
+    dna: &S,
+    limit: u64,
+    items: &Items,
+    steps: &mut Steps<L>,
+) -> Result<Rewriting<S>, NoMemory>
     requires place { items.now.place ≤ length (S.bases dna.now) }
     requires balanced { IsBalanced items.now.pattern }
     requires limit { limit ≤ 2 ^ 40 }
@@ -34,7 +40,15 @@ pub(crate) fn rewrite<S: Strand, L: Ledger>(alloc: Global, dna: &S, limit: u64, 
 }
 
 /// The next DNA after a match, if it is within the limit.
-fn put<S: Strand, L: Ledger>(alloc: Global, dna: &S, limit: u64, items: &Items, stop: u64, groups: &GroupList, steps: &mut Steps<L>) -> Result<Rewriting<S>, NoMemory>
+fn put<S: Strand, L: Ledger>(
+    alloc: Global,
+    dna: &S,
+    limit: u64,
+    items: &Items,
+    stop: u64,
+    groups: &GroupList,
+    steps: &mut Steps<L>,
+) -> Result<Rewriting<S>, NoMemory>
     requires stop { stop ≤ length (S.bases dna.now) }
     requires groups { All (LiesWithin (length (S.bases dna.now))) groups.now }
     requires matches { MatchesAt (S.bases dna.now) items.now.place items.now.pattern stop groups.now }
@@ -55,7 +69,11 @@ fn put<S: Strand, L: Ledger>(alloc: Global, dna: &S, limit: u64, items: &Items, 
 }
 
 /// The next DNA where there is no match: what the readings left.
-fn leave<S: Strand, L: Ledger>(dna: &S, place: u64, steps: &mut Steps<L>) -> Result<Rewriting<S>, NoMemory>
+fn leave<S: Strand, L: Ledger>(
+    dna: &S,
+    place: u64,
+    steps: &mut Steps<L>,
+) -> Result<Rewriting<S>, NoMemory>
     requires { place ≤ length (S.bases dna.now) }
     ensures outcome { IfOk result (λ made. made.outcome ≡ Outcome.NoMatch) }
     ensures next { IfOk result (λ made. option_map S.bases made.next ≡ Some (drop place (S.bases dna.now))) }

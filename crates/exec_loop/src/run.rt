@@ -13,7 +13,12 @@ use strand::Strand;
 impl<S: Strand> Machine<S> {
     /// Makes attempts until one finishes or is too long, or until as many were made as the budget allows.
     /// After an error the DNA is that before the attempt that failed.
-    pub fn run<T: RnaTaker, L: Ledger>(&mut self, budget: u64, rna: &mut T, steps: &mut Steps<L>) -> Result<RunEnd, StepError>
+    pub fn run<T: RnaTaker, L: Ledger>(
+        &mut self,
+        budget: u64,
+        rna: &mut T,
+        steps: &mut Steps<L>,
+    ) -> Result<RunEnd, StepError>
         requires budget { budget ≤ 2 ^ 40 }
         requires room { T.taken rna.old ≤ 2 ^ 97 }
         ensures run { IfOk result (λ end. MakesRun T.follows rna.old rna.new self.old self.new budget end) }

@@ -18,7 +18,11 @@ use strand::Strand;
 impl<S: Strand> Machine<S> {
     /// Makes one attempt. Its RNA goes to the taker, whatever becomes of the attempt.
     /// After an error the DNA is as before, and another `step` reads that RNA again.
-    pub fn step<T: RnaTaker, L: Ledger>(&mut self, rna: &mut T, steps: &mut Steps<L>) -> Result<Report, StepError>
+    pub fn step<T: RnaTaker, L: Ledger>(
+        &mut self,
+        rna: &mut T,
+        steps: &mut Steps<L>,
+    ) -> Result<Report, StepError>
         requires { T.taken rna.old ≤ 2 ^ 98 }
         ensures attempt { IfOk result (λ report. MakesAttempt T.follows rna.old rna.new self.old self.new report) }
         ensures limit { self.new.limit ≡ self.old.limit }
@@ -40,7 +44,11 @@ impl<S: Strand> Machine<S> {
     }
 
     /// Puts the DNA that the items make of this one in its place, if there is one.
-    fn put_next<L: Ledger>(&mut self, items: Items, steps: &mut Steps<L>) -> Result<Report, StepError>
+    fn put_next<L: Ledger>(
+        &mut self,
+        items: Items,
+        steps: &mut Steps<L>,
+    ) -> Result<Report, StepError>
         requires place { items.place ≤ length self.old.dna }
         requires balanced { IsBalanced items.pattern }
         ensures came { IfOk result (λ report. ComesToState self.old self.new items.place items.pattern items.template report.outcome) }
@@ -52,7 +60,11 @@ impl<S: Strand> Machine<S> {
         ensures memory { OnErr result (result ≡ Err StepError.NoMemory) }
     {
         let rewriting = rewrite(self.alloc, &self.dna, self.limit, &items, steps)?;
-        let Items { pattern, template, .. } = items;
+        let Items {
+            pattern,
+            template,
+            ..
+        } = items;
         let Rewriting { outcome, next } = rewriting;
         if let Some(dna) = next {
             self.dna = dna;

@@ -31,10 +31,25 @@ fn make_runs<L: Ledger>(rt: &impl Abort, alloc: Global, blank: Blank) -> Result<
     let mut steps = Steps::<L>::new(blank);
     let finished = |attempts| RunEnd::Finished { attempts };
     for (letters, budget, end, want) in [
-        (b"IIPIPICPIICICIIFICCIFPPIICCFPC".as_slice(), 0, RunEnd::Budget, b"IIPIPICPIICICIIFICCIFPPIICCFPC".as_slice()),
-        (b"IIPIPICPIICICIIFICCIFPPIICCFPC", 1, RunEnd::Budget, b"PICFC"),
+        (
+            b"IIPIPICPIICICIIFICCIFPPIICCFPC".as_slice(),
+            0,
+            RunEnd::Budget,
+            b"IIPIPICPIICICIIFICCIFPPIICCFPC".as_slice(),
+        ),
+        (
+            b"IIPIPICPIICICIIFICCIFPPIICCFPC",
+            1,
+            RunEnd::Budget,
+            b"PICFC",
+        ),
         (b"IIPIPICPIICICIIFICCIFPPIICCFPC", 2, finished(2), b"PICFC"),
-        (b"IIPIPICPIICICIIFICCIFCCCPPIICCFPC", 1, RunEnd::Budget, b"PIICCFCFFPC"),
+        (
+            b"IIPIPICPIICICIIFICCIFCCCPPIICCFPC",
+            1,
+            RunEnd::Budget,
+            b"PIICCFCFFPC",
+        ),
         (b"IIPIPIICPIICIICCIICFCFC", 1, RunEnd::Budget, b"I"),
         (b"IFFFPIICCIICPCFCF", 1, RunEnd::Budget, b"ICF"),
         (b"IIPIPICPIICIICIIPPIICCF", 1, RunEnd::Budget, b"ICP"),
@@ -73,9 +88,27 @@ fn read_great_numbers<L: Ledger>(rt: &impl Abort, alloc: Global, blank: Blank) -
     let great_group = TplItem::Group { n: BIG, level: 0 };
     let great_level = TplItem::Group { n: 0, level: BIG };
     for (front, back, outcome, item, want) in [
-        (b"IP".as_slice(), b"IICIICCF".as_slice(), Outcome::NoMatch, None, b"CF".as_slice()),
-        (b"IICIFP", b"IICCF", Outcome::Matched(0), Some(great_group), b"CF"),
-        (b"IIPIICIICIF", b"PIICCF", Outcome::Matched(0), Some(great_level), b"CF"),
+        (
+            b"IP".as_slice(),
+            b"IICIICCF".as_slice(),
+            Outcome::NoMatch,
+            None,
+            b"CF".as_slice(),
+        ),
+        (
+            b"IICIFP",
+            b"IICCF",
+            Outcome::Matched(0),
+            Some(great_group),
+            b"CF",
+        ),
+        (
+            b"IIPIICIICIF",
+            b"PIICCF",
+            Outcome::Matched(0),
+            Some(great_level),
+            b"CF",
+        ),
     ] {
         let letters = around_great_number(alloc, front, back)?;
         let mut machine = machine_on(alloc, letters.as_slice(), LIMIT, &mut steps)?;

@@ -1,5 +1,5 @@
 // Files of the machine's disk. No clause says what one holds.
-ghost use Rattle.std.specs.Prelude.{true, None};
+ghost use Rattle.std.specs.Prelude.{true, None, ◌≤◌, length, IfOk};
 
 use fuun_io::{Failed, Folder};
 use std::fs;
@@ -24,15 +24,24 @@ impl<'a, R: Files> DiskFolder<'a, R> {
             given: 0,
         }
     }
+}
 
-    fn read(&mut self, name: &str, at_byte: u64, buf: &mut [u8]) -> io::Result<usize> {
-        if at_byte == 0 {
-            self.file = Some(fs::open(self.rt, name)?);
-        }
-        match &mut self.file {
-            Some(file) => file.read(buf),
-            None => Ok(0),
-        }
+/// Reads from the file that is open; at byte 0 it is the file of that name, opened anew.
+fn read_on<R: Files>(
+    rt: &R,
+    file: &mut Option<R::File>,
+    name: &str,
+    at_byte: u64,
+    buf: &mut [u8],
+) -> io::Result<usize>
+    ensures { IfOk result (λ count. count ≤ length buf.new) }
+{
+    if at_byte == 0 {
+        *file = Some(fs::open(rt, name)?);
+    }
+    match file {
+        Some(file) => file.read(buf),
+        None => Ok(0),
     }
 }
 
@@ -46,7 +55,7 @@ impl<R: Files> Folder for DiskFolder<'_, R> {
     ghost given = { λ folder. folder.given };
 
     fn piece(&mut self, name: &str, at_byte: u64, buf: &mut [u8]) -> Result<usize, Failed> {
-        match self.read(name, at_byte, buf) {
+        match read_on(self.rt, &mut self.file, name, at_byte, buf) {
             Ok(count) => {
                 self.given = self.given.saturating_add(count as u64);
                 Ok(count)

@@ -1,6 +1,8 @@
 //! The program: words from the command line, files from the disk, output to standard output.
 #![tactic(auto)]
 
+ghost use Rattle.std.specs.Prelude.{◌≡◌, ◌<◌};
+
 mod disk;
 mod stream;
 

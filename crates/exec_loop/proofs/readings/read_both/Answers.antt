@@ -1,7 +1,5 @@
 use Rattle.std.proofs.Common.{ℕ}
 use Rattle.std.proofs.lemmas.Result.{err_from_is_err_and}
-use Rattle.exec_loop.specs.State.{State}
-use Rattle.exec_loop.specs.Steps.{StandsWithinAttempt}
 use Rattle.exec_loop.proofs.Parts.{on_err, within_pattern, within_template, template_ran_out, both_read}
 use Rattle.exec_loop.proofs.readings.read_both.Goals as goal
 

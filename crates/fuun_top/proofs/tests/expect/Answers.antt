@@ -1,5 +1,6 @@
+use Rattle.std.proofs.Common.{true, refl}
 use Rattle.fuun_top.proofs.AskLemmas.{may_ask_all}
 use Rattle.fuun_top.proofs.tests.expect.Goals as goal
 
 pub fuun-answer-requires : goal.fuun-answer-requires
-fuun-answer-requires g c = may_ask_all _ _ (λ name. tt)
+fuun-answer-requires g c = may_ask_all (λ name. true) _ (λ name. refl)

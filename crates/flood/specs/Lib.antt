@@ -1,0 +1,3 @@
+pub mod Filling
+pub mod Region
+pub mod Spans
