@@ -88,12 +88,11 @@ fn prefixes<L: Ledger>(rt: &impl Abort, alloc: Global, blank: Blank) -> Result<(
     assert_eq!(rt; bases.len(), 30);
     for count in 0..31 {
         let dna = FlatStrand::build(alloc, &bases[..count], &mut steps)?;
-        let mut rna = Discard::new();
-        let pattern = pattern_text(alloc, &dna, &mut rna)?;
+        let pattern = pattern_text(alloc, &dna, &mut Discard::new())?;
         let want = if count < 16 { "finish" } else { "(!2)P 16" };
         assert_eq!(rt; pattern.as_str(), want, "at {count}");
         if dna.len() >= 16 {
-            let template = template_text(alloc, &dna, 16, &mut rna)?;
+            let template = template_text(alloc, &dna, 16, &mut Discard::new())?;
             let want = if count < 26 { "finish" } else { "PI{0,0} 26" };
             assert_eq!(rt; template.as_str(), want, "at {count}");
         }

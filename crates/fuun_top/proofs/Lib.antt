@@ -3,3 +3,5 @@ pub mod NumberLemmas
 pub mod OutputLemmas
 pub mod AskLemmas
 pub mod OneOutput
+pub mod DrawingLemmas
+pub mod PictureLemmas

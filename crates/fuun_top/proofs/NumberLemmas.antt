@@ -36,7 +36,6 @@ number-refused most text small is refused =
     let great : digits_value 10 text < 2 ^ 64 → ⊥ = λ lt. refused (subst (λ t. IsNumeral 10 t × (digits_value 10 t < 2 ^ 64)) (sym plain) ((ltb-true 0 (length text) parts.0, digits text parts.1), lt)) in
     let over : nat_le (digits_value 10 text) most ≡ false = lt-leb (digits_value 10 text) most (omega (arith, great)) in
     not_both _ _ _ over
-
   where
     not_both : (a b : Bool) (n : ℕ) → b ≡ false → (if a && b then Some n else None) ≡ None
     not_both true b n is = rw is refl

@@ -2,13 +2,15 @@
 use Rattle.std.specs.Prelude.{◌≡◌, ◌⊎◌, ℕ, ◌≤◌, Bool, Option, Some, None, List, IsTrue, IfSome, length}
 use Rattle.fuun_io.specs.Counts.{raised}
 use Rattle.fuun_top.specs.declared.status.Status.{Status}
-use Rattle.fuun_top.specs.declared.status.Status.TheVariants.{Done, Usage, OutOfBudget, TooLong, BadBase, InputTooLong, ReadFault, WriteFault, NoMemory}
-use Rattle.fuun_top.specs.Words.{Request, Rna}
+use Rattle.fuun_top.specs.declared.status.Status.TheVariants.{Done, Usage, OutOfBudget, TooLong, BadBase, BadRna, InputTooLong, ReadFault, WriteFault, NoMemory}
+use Rattle.fuun_top.specs.Words.{Request, Rna, Image, Draw}
 
 -- the folder allows each name in the request
 abbrev pub MayAsk : (List ℕ → Bool) → Option Request → Type 0
 MayAsk allows None = Unit {0}
 MayAsk allows (Some (Rna name budget)) = IsTrue (allows name)
+MayAsk allows (Some (Image name budget)) = IsTrue (allows name)
+MayAsk allows (Some (Draw name)) = IsTrue (allows name)
 
 -- the answer is this status, or memory is wanted, or a read or a write failed
 abbrev pub AnswersOrFails : Status → Status → Type 0
@@ -21,6 +23,7 @@ IsRefusal Usage = Unit {0}
 IsRefusal OutOfBudget = ⊥
 IsRefusal (TooLong attempt) = ⊥
 IsRefusal (BadBase file place) = Unit {0}
+IsRefusal (BadRna line) = Unit {0}
 IsRefusal (InputTooLong file) = Unit {0}
 IsRefusal ReadFault = Unit {0}
 IsRefusal WriteFault = ⊥
@@ -34,3 +37,5 @@ IsGiven files old new name = IfSome (files name) (λ contents. raised old (lengt
 abbrev pub AreGiven : (List ℕ → Option (List ℕ)) → ℕ → ℕ → Option Request → Type 0
 AreGiven files old new None = Unit {0}
 AreGiven files old new (Some (Rna name budget)) = IsGiven files old new name
+AreGiven files old new (Some (Image name budget)) = IsGiven files old new name
+AreGiven files old new (Some (Draw name)) = IsGiven files old new name

@@ -6,4 +6,5 @@ pub mod Answer
 pub mod Asked
 pub mod Files
 pub mod Running
+pub mod Drawing
 pub mod OutputLaws

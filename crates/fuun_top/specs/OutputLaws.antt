@@ -1,7 +1,7 @@
 -- What holds of the output.
 use Rattle.std.specs.Prelude.{◌≡◌, ℕ, Option, Some, None, List}
 use Rattle.fuun_top.specs.Output.{Output, IsOutput}
-use Rattle.fuun_top.specs.Words.{Request, Rna, request}
+use Rattle.fuun_top.specs.Words.{Request, Rna, Image, Draw, request}
 
 -- the contents of the file of a name are told
 abbrev pub IsTold : (List ℕ → Option (List ℕ)) → List ℕ → Type 0
@@ -11,6 +11,8 @@ IsTold files name = (contents : List ℕ) × (files name ≡ Some contents)
 abbrev pub AreTold : (List ℕ → Option (List ℕ)) → Option Request → Type 0
 AreTold files None = Unit {0}
 AreTold files (Some (Rna name budget)) = IsTold files name
+AreTold files (Some (Image name budget)) = IsTold files name
+AreTold files (Some (Draw name)) = IsTold files name
 
 -- where the files are told, words have an output
 abbrev pub HasOutput : Type 0

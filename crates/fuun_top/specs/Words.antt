@@ -5,9 +5,12 @@ use Rattle.std.specs.Cmp.Lexicographic.{pointwise}
 use Rattle.std.specs.Option.{option_map}
 use Rattle.std.specs.Str.Parse.{digits_value}
 
--- what is asked for: the RNA of the run of a DNA file under a budget of attempts
+-- what is asked for: the RNA of the run of a DNA file under a budget of attempts, the picture of that RNA, or the
+-- picture of the commands of an RNA file
 pub data Request : Type 0 where
   Rna : List ℕ → ℕ → Request
+  Image : List ℕ → ℕ → Request
+  Draw : List ℕ → Request
 
 -- whether a byte is a decimal digit
 abbrev pub is_digit : ℕ → Bool
@@ -29,21 +32,32 @@ most_budget = 2 ^ 40
 abbrev pub is_word : List ℕ → List ℕ → Bool
 is_word word text = pointwise nat_eq word text
 
--- the words `rna --dna F --budget N`
-abbrev pub rna_request : List ℕ → List ℕ → List ℕ → List ℕ → List ℕ → Option Request
-rna_request verb first file second budget =
-    if is_word verb (codes "rna") && is_word first (codes "--dna") && is_word second (codes "--budget")
-    then option_map (Rna file) (number most_budget budget)
+-- the words `VERB --dna F --budget N` of this verb
+abbrev pub run_request : List ℕ → (List ℕ → ℕ → Request) → List ℕ → List ℕ → List ℕ → List ℕ → List ℕ → Option Request
+run_request name asks verb first file second budget =
+    if is_word verb name && is_word first (codes "--dna") && is_word second (codes "--budget")
+    then option_map (asks file) (number most_budget budget)
     else None
+
+-- the words `rna --dna F --budget N` and `image --dna F --budget N`
+abbrev pub rna_or_image : List ℕ → List ℕ → List ℕ → List ℕ → List ℕ → Option Request
+rna_or_image verb first file second budget =
+    if is_word verb (codes "image")
+    then run_request (codes "image") Image verb first file second budget
+    else run_request (codes "rna") Rna verb first file second budget
+
+-- the words `draw --rna F`
+abbrev pub draw_request : List ℕ → List ℕ → List ℕ → Option Request
+draw_request verb first file = if is_word verb (codes "draw") && is_word first (codes "--rna") then Some (Draw file) else None
 
 -- what the words ask for: none where they are in no form that is known
 abbrev pub request : List (List ℕ) → Option Request
 request [] = None
 request (a ∷ []) = None
 request (a ∷ b ∷ []) = None
-request (a ∷ b ∷ c ∷ []) = None
+request (a ∷ b ∷ c ∷ []) = draw_request a b c
 request (a ∷ b ∷ c ∷ d ∷ []) = None
-request (a ∷ b ∷ c ∷ d ∷ e ∷ []) = rna_request a b c d e
+request (a ∷ b ∷ c ∷ d ∷ e ∷ []) = rna_or_image a b c d e
 request (a ∷ b ∷ c ∷ d ∷ e ∷ f ∷ more) = None
 
 -- the texts of words

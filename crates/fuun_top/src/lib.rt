@@ -5,7 +5,7 @@ mod files;
 pub mod laws;
 mod output;
 mod request;
-mod rna;
+mod running;
 mod status;
 #[cfg(test)]
 mod tests;

@@ -13,19 +13,44 @@ pub(crate) struct RunWords<'a> {
     pub(crate) budget: u64,
 }
 
+/// What the words ask for.
+#[derive(Clone, Copy, Debug)]
+pub(crate) enum Request<'a> {
+    /// The RNA of a run.
+    Rna(RunWords<'a>),
+    /// The picture of a run's RNA.
+    Image(RunWords<'a>),
+    /// The picture of the commands of an RNA file.
+    Draw(&'a str),
+}
+
 /// What the words ask for: None where they are in no form that is known.
-pub(crate) fn read_request<'a>(words: &'a [String]) -> Option<RunWords<'a>>
+pub(crate) fn read_request<'a>(words: &'a [String]) -> Option<Request<'a>>
     ensures { asked result ≡ request (texts words.now) }
 {
     match words {
+        [verb, option, rna] if verb.as_str() == "draw" && option.as_str() == "--rna" => {
+            Some(Request::Draw(rna.as_str()))
+        }
         [verb, dna_option, dna, budget_option, budget]
-            if verb.as_str() == "rna" && dna_option.as_str() == "--dna" && budget_option.as_str() == "--budget" =>
-        {
+            if verb.as_str() == "image"
+                && dna_option.as_str() == "--dna"
+                && budget_option.as_str() == "--budget" => {
             let budget = read_number(budget.as_str(), MOST_BUDGET)?;
-            Some(RunWords {
+            Some(Request::Image(RunWords {
                 dna: dna.as_str(),
                 budget,
-            })
+            }))
+        }
+        [verb, dna_option, dna, budget_option, budget]
+            if verb.as_str() == "rna"
+                && dna_option.as_str() == "--dna"
+                && budget_option.as_str() == "--budget" => {
+            let budget = read_number(budget.as_str(), MOST_BUDGET)?;
+            Some(Request::Rna(RunWords {
+                dna: dna.as_str(),
+                budget,
+            }))
         }
         _ => None,
     }

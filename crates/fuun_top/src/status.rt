@@ -28,6 +28,8 @@ pub enum Status {
     TooLong { attempt: u64 },
     /// The byte at this place of the file, counted from 0, is no letter of a base.
     BadBase { file: InFile, place: u64 },
+    /// This line of the RNA file, counted from 1, is no command.
+    BadRna { line: u64 },
     /// The file has more than 2^26 bytes.
     InputTooLong { file: InFile },
     /// A file could not be read.
@@ -62,6 +64,7 @@ impl Status {
             Status::OutOfBudget => 3,
             Status::TooLong { .. } => 4,
             Status::BadBase { .. } => 5,
+            Status::BadRna { .. } => 6,
             Status::InputTooLong { .. } => 10,
             Status::ReadFault => 11,
             Status::WriteFault => 12,
@@ -81,7 +84,11 @@ pub fn put_status<S: Sink>(status: &Status, sink: &mut S) -> Result<(), WriteFau
         Status::OutOfBudget => put_pieces(sink, &[b"fuun: out of budget\n"]),
         Status::TooLong { attempt } => put_too_long(sink, attempt),
         Status::BadBase { file, place } => put_bad_base(sink, file, place),
-        Status::InputTooLong { file } => put_pieces(sink, &[b"fuun: ", file.name().as_bytes(), b": too long\n"]),
+        Status::BadRna { line } => put_bad_rna(sink, line),
+        Status::InputTooLong { file } => put_pieces(
+            sink,
+            &[b"fuun: ", file.name().as_bytes(), b": too long\n"],
+        ),
         Status::ReadFault => put_pieces(sink, &[b"fuun: read fault\n"]),
         Status::WriteFault => put_pieces(sink, &[b"fuun: write fault\n"]),
         Status::NoMemory => put_pieces(sink, &[b"fuun: no memory\n"]),
@@ -93,12 +100,15 @@ fn put_too_long<S: Sink>(sink: &mut S, attempt: u64) -> Result<(), WriteFault>
     ensures cause { HasCause (S.faults sink.old) (S.faults sink.new) result }
 {
     let mut buffer = Buffer::new();
-    put_pieces(sink, &[
-        b"fuun: ",
-        b"too long at attempt ",
-        buffer.format(attempt).as_bytes(),
-        b"\n",
-    ])
+    put_pieces(
+        sink,
+        &[
+            b"fuun: ",
+            b"too long at attempt ",
+            buffer.format(attempt).as_bytes(),
+            b"\n",
+        ],
+    )
 }
 
 fn put_bad_base<S: Sink>(sink: &mut S, file: InFile, place: u64) -> Result<(), WriteFault>
@@ -107,11 +117,31 @@ fn put_bad_base<S: Sink>(sink: &mut S, file: InFile, place: u64) -> Result<(), W
     ensures cause { HasCause (S.faults sink.old) (S.faults sink.new) result }
 {
     let mut buffer = Buffer::new();
-    put_pieces(sink, &[
-        b"fuun: ",
-        file.name().as_bytes(),
-        b": byte ",
-        buffer.format(place).as_bytes(),
-        b" is not a base\n",
-    ])
+    put_pieces(
+        sink,
+        &[
+            b"fuun: ",
+            file.name().as_bytes(),
+            b": byte ",
+            buffer.format(place).as_bytes(),
+            b" is not a base\n",
+        ],
+    )
+}
+
+fn put_bad_rna<S: Sink>(sink: &mut S, number: u64) -> Result<(), WriteFault>
+    ensures puts { Puts result (S.bytes sink.old) (S.bytes sink.new)
+        (line (codes "rna: line " ++ decimal number ++ codes " is not a command")) }
+    ensures cause { HasCause (S.faults sink.old) (S.faults sink.new) result }
+{
+    let mut buffer = Buffer::new();
+    put_pieces(
+        sink,
+        &[
+            b"fuun: ",
+            b"rna: line ",
+            buffer.format(number).as_bytes(),
+            b" is not a command\n",
+        ],
+    )
 }

@@ -48,9 +48,24 @@ fn rna_of_small_files(rt: HostRuntime) -> Result<(), Fail> {
     for (budget, file, status, bytes) in [
         ("1", silent, Status::OutOfBudget, b"".as_slice()),
         ("2", silent, Status::Done, b"".as_slice()),
-        ("1", b"IIIPIPIIIC".as_slice(), Status::Done, b"PIPIIIC\n".as_slice()),
-        ("0", b"IIIPIPIIIC".as_slice(), Status::OutOfBudget, b"".as_slice()),
-        ("0002", b"IIIPI".as_slice(), Status::Done, b"PI\n".as_slice()),
+        (
+            "1",
+            b"IIIPIPIIIC".as_slice(),
+            Status::Done,
+            b"PIPIIIC\n".as_slice(),
+        ),
+        (
+            "0",
+            b"IIIPIPIIIC".as_slice(),
+            Status::OutOfBudget,
+            b"".as_slice(),
+        ),
+        (
+            "0002",
+            b"IIIPI".as_slice(),
+            Status::Done,
+            b"PI\n".as_slice(),
+        ),
         ("1", b"III".as_slice(), Status::Done, b"\n".as_slice()),
         ("9", b"".as_slice(), Status::Done, b"".as_slice()),
     ] {
@@ -89,7 +104,15 @@ fn other_words_are_usage(rt: HostRuntime) -> Result<(), Fail> {
         ["rna", "--budget", "1", "--dna", "a"].as_slice(),
         ["rna", "--dna", "a", "--budget", "1", "b"].as_slice(),
     ] {
-        expect::<Brand>(&rt, rt.alloc(), Blank::new(1), words, b"", Status::Usage, b"")?;
+        expect::<Brand>(
+            &rt,
+            rt.alloc(),
+            Blank::new(1),
+            words,
+            b"",
+            Status::Usage,
+            b"",
+        )?;
     }
     Ok(())
 }
@@ -100,7 +123,11 @@ fn statuses_have_their_lines(rt: HostRuntime) -> Result<(), Fail> {
         (Status::Done, 0, b"".as_slice()),
         (Status::Usage, 2, b"fuun: usage\n".as_slice()),
         (Status::OutOfBudget, 3, b"fuun: out of budget\n".as_slice()),
-        (Status::TooLong { attempt: 70 }, 4, b"fuun: too long at attempt 70\n".as_slice()),
+        (
+            Status::TooLong { attempt: 70 },
+            4,
+            b"fuun: too long at attempt 70\n".as_slice(),
+        ),
         (
             Status::BadBase {
                 file: InFile::Dna,
@@ -110,7 +137,14 @@ fn statuses_have_their_lines(rt: HostRuntime) -> Result<(), Fail> {
             b"fuun: dna: byte 6 is not a base\n".as_slice(),
         ),
         (
-            Status::InputTooLong { file: InFile::Prefix },
+            Status::BadRna { line: 12 },
+            6,
+            b"fuun: rna: line 12 is not a command\n".as_slice(),
+        ),
+        (
+            Status::InputTooLong {
+                file: InFile::Prefix,
+            },
             10,
             b"fuun: prefix: too long\n".as_slice(),
         ),
@@ -122,6 +156,132 @@ fn statuses_have_their_lines(rt: HostRuntime) -> Result<(), Fail> {
         put_status(&status, &mut sink)?;
         assert_eq!(rt; status.number(), number);
         assert_eq!(rt; sink.bytes(), line);
+    }
+    Ok(())
+}
+
+/// Asks for the words over one file of the name `a`, and compares the picture: one pixel, and all others.
+fn expect_picture<L: Ledger>(
+    rt: &impl Abort,
+    alloc: Global,
+    blank: Blank,
+    texts: &[&str],
+    file: &[u8],
+    picture: &Expected,
+) -> Result<(), Fail>
+    requires name { blank.name ≡ L.name }
+    requires parts { blank.parts ≡ L.parts }
+    requires some { 0 < L.parts }
+{
+    let mut steps = Steps::<L>::new(blank);
+    let mut folder = MemFolder::new(alloc);
+    folder.add("a", file)?;
+    let mut sink = MemSink::with_room(alloc, 1_080_015)?;
+    let words = words(alloc, texts)?;
+    let answer = fuun(alloc, &words, &mut folder, &mut sink, &mut steps);
+    assert_eq!(rt; answer, Status::Done);
+    compare(rt, sink.bytes(), picture);
+    Ok(())
+}
+
+/// A picture of one colour but for the pixel at one place.
+struct Expected {
+    at: usize,
+    pixel: [u8; 3],
+    others: [u8; 3],
+}
+
+fn compare(rt: &impl Abort, bytes: &[u8], picture: &Expected) {
+    assert_eq!(rt; bytes.len(), 1_080_015);
+    assert_eq!(rt; &bytes[..15], b"P6\n600 600\n255\n");
+    for (place, pixel) in bytes[15..].chunks(3).enumerate() {
+        let want = if place == picture.at {
+            picture.pixel
+        } else {
+            picture.others
+        };
+        assert_eq!(rt; pixel, want, "at {place}");
+    }
+}
+
+const BLANK: [u8; 3] = [0, 0, 0];
+
+const RED: [u8; 3] = [255, 0, 0];
+
+#[test]
+fn images_of_small_files(rt: HostRuntime) -> Result<(), Fail> {
+    let words = ["image", "--dna", "a", "--budget", "1"];
+    for (file, colour) in [
+        (b"".as_slice(), BLANK),
+        (b"IIIPIPIIIPIIIPIIPIIP".as_slice(), RED),
+    ] {
+        let picture = Expected {
+            at: 0,
+            pixel: colour,
+            others: colour,
+        };
+        expect_picture::<Brand>(&rt, rt.alloc(), Blank::new(1), &words, file, &picture)?;
+    }
+    Ok(())
+}
+
+#[test]
+fn drawings_of_small_files(rt: HostRuntime) -> Result<(), Fail> {
+    let words = ["draw", "--rna", "a"];
+    let edge = 599 * 600;
+    for (file, at, pixel, others) in [
+        (b"PIPIIIP\nPIIPIIP".as_slice(), 0, RED, RED),
+        (b"PFFICCP\n".as_slice(), 0, BLANK, BLANK),
+        (
+            b"PIPIIIC\nPIPIICF\nPIPIIFF\nPFFICCP\n".as_slice(),
+            0,
+            [85, 170, 85],
+            BLANK,
+        ),
+        (
+            b"PIPIICF\nPIPIIPF\nPIPIIPP\nPFFICCP\n".as_slice(),
+            0,
+            [127, 127, 0],
+            BLANK,
+        ),
+        (
+            b"PIPIIIP\nPCCCCCP\nPIIIIIP\nPCCIFFP\nPFFICCP\n".as_slice(),
+            edge,
+            RED,
+            BLANK,
+        ),
+        (
+            b"PIPIIIP\nPIIPIIP\nPCCPFFP\nPIIPICP\nPIPIICP\nPIPIIPF\nPIPIIPP\nPIIPIIP\nPFFPCCP\n".as_slice(),
+            0,
+            [128, 0, 127],
+            [128, 0, 127],
+        ),
+        (
+            b"PIPIIIP\nPIIPIIP\nPCCPFFP\nPIIPICP\nPIPIICP\nPIPIIPF\nPIPIIPP\nPIIPIIP\nPFFICCF\n".as_slice(),
+            0,
+            [127, 0, 0],
+            [127, 0, 0],
+        ),
+    ] {
+        let picture = Expected { at, pixel, others };
+        expect_picture::<Brand>(&rt, rt.alloc(), Blank::new(1), &words, file, &picture)?;
+    }
+    Ok(())
+}
+
+#[test]
+fn rna_files_are_judged_by_their_lines(rt: HostRuntime) -> Result<(), Fail> {
+    for (file, line) in [(b"PIPIIIC\nPIPIIICP\n".as_slice(), 2), (b"x".as_slice(), 1)] {
+        let status = Status::BadRna { line };
+        expect::<Brand>(
+            &rt,
+            rt.alloc(),
+            Blank::new(1),
+            &["draw", "--rna", "a"],
+            file,
+            status,
+            b"",
+        )?;
     }
     Ok(())
 }

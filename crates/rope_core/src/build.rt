@@ -1,5 +1,4 @@
 ghost use Rattle.std.specs.Prelude.{◌≡◌, ◌+◌, ◌*◌, ◌^◌, ◌<◌, ◌≤◌, length, IfOk};
-ghost use Rattle.fuun_base.specs.Ticks.{Ticks};
 ghost use Rattle.rope_node.specs.Tree.{IsTree};
 ghost use Rattle.rope_core.specs.Join.{leaves_for};
 

@@ -1,4 +1,4 @@
-ghost use Rattle.std.specs.Prelude.{◌≡◌, ℕ, ◌+◌, ◌*◌, ◌^◌, ◌<◌, ◌≤◌, max, ◌++◌, length, IsTrue, IsFalse, IfOk};
+ghost use Rattle.std.specs.Prelude.{◌≡◌, ◌+◌, ◌*◌, ◌^◌, ◌<◌, ◌≤◌, max, ◌++◌, length, IsTrue, IsFalse, IfOk};
 ghost use Rattle.fuun_base.specs.Ticks.{Ticks};
 ghost use Rattle.rope_node.specs.Tree.{IsNear, IsTree};
 ghost use Rattle.rope_core.specs.Join.{apart, IsJoinedHeight};
