@@ -92,29 +92,32 @@ fn refusals_write_nothing(rt: HostRuntime) -> Result<(), Fail> {
     Ok(())
 }
 
+fn expect_usage<L: Ledger>(
+    rt: &impl Abort,
+    alloc: Global,
+    blank: Blank,
+    texts: &[&str],
+) -> Result<(), Fail>
+    requires name { blank.name ≡ L.name }
+    requires parts { blank.parts ≡ L.parts }
+    requires some { 0 < L.parts }
+{
+    expect::<L>(rt, alloc, blank, texts, b"", Status::Usage, b"")
+}
+
 #[test]
 fn other_words_are_usage(rt: HostRuntime) -> Result<(), Fail> {
-    for words in [
-        [].as_slice(),
-        ["paint"].as_slice(),
-        ["rna", "--dna", "a", "--budget", "x"].as_slice(),
-        ["rna", "--dna", "a", "--budget", ""].as_slice(),
-        ["rna", "--dna", "a", "--budget", "+1"].as_slice(),
-        ["rna", "--dna", "a", "--budget", "1099511627777"].as_slice(),
-        ["rna", "--budget", "1", "--dna", "a"].as_slice(),
-        ["rna", "--dna", "a", "--budget", "1", "b"].as_slice(),
-    ] {
-        expect::<Brand>(
-            &rt,
-            rt.alloc(),
-            Blank::new(1),
-            words,
-            b"",
-            Status::Usage,
-            b"",
-        )?;
+    expect_usage::<Brand>(&rt, rt.alloc(), Blank::new(1), &[])?;
+    expect_usage::<Brand>(&rt, rt.alloc(), Blank::new(1), &["paint"])?;
+    expect_usage::<Brand>(&rt, rt.alloc(), Blank::new(1), &["draw", "--dna", "a"])?;
+    for budget in ["x", "", "+1", "1099511627777"] {
+        let words = ["rna", "--dna", "a", "--budget", budget];
+        expect_usage::<Brand>(&rt, rt.alloc(), Blank::new(1), &words)?;
     }
-    Ok(())
+    let other_order = ["rna", "--budget", "1", "--dna", "a"];
+    expect_usage::<Brand>(&rt, rt.alloc(), Blank::new(1), &other_order)?;
+    let one_more = ["rna", "--dna", "a", "--budget", "1", "b"];
+    expect_usage::<Brand>(&rt, rt.alloc(), Blank::new(1), &one_more)
 }
 
 #[test]
@@ -185,6 +188,7 @@ fn expect_picture<L: Ledger>(
 }
 
 /// A picture of one colour but for the pixel at one place.
+#[derive(Clone, Copy)]
 struct Expected {
     at: usize,
     pixel: [u8; 3],
@@ -193,14 +197,14 @@ struct Expected {
 
 fn compare(rt: &impl Abort, bytes: &[u8], picture: &Expected) {
     assert_eq!(rt; bytes.len(), 1_080_015);
-    assert_eq!(rt; &bytes[..15], b"P6\n600 600\n255\n");
+    assert_eq!(rt; &bytes[..15], b"P6\n600 600\n255\n".as_slice());
     for (place, pixel) in bytes[15..].chunks(3).enumerate() {
         let want = if place == picture.at {
             picture.pixel
         } else {
             picture.others
         };
-        assert_eq!(rt; pixel, want, "at {place}");
+        assert_eq!(rt; pixel, want.as_slice(), "at {place}");
     }
 }
 
