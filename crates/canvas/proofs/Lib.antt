@@ -1,3 +1,2 @@
 pub mod BucketLemmas
 pub mod PixelLemmas
-pub mod Walks

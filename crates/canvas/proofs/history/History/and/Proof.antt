@@ -1,26 +1,31 @@
 -- The new history holds the inks of the old one and one more: the proof picks them.
-use Rattle.std.proofs.Common.{[], ◌∷◌, ◌++◌, refl}
+use Rattle.std.proofs.Common.{List, [], ◌∷◌, ◌++◌, refl}
 use Rattle.std.proofs.raw_atomic.Walks.{proved}
 use base.Fml.{ftrue}
 use mir.Syntax.{named}
-use types.Kit.{‵, raw, ◌⊛◌, ◌$◌, ◌∵◌, !, qed, done, move, keep, split, fjoin, suffices}
+use types.Kit.{‵, raw, ◌⊛◌, ◌$◌, ◌∵◌, !, qed, done, move, keep, split, fjoin, fpack, feq_i, suffices}
+use mir.Val.{Val, vstruct, vnil}
 use types.Part.{agg}
 use types.Run.{enter, returns, no_more}
 use types.ByLocal.{alloc_all, pass_all, free_all, look_at, sets}
 use denote.Builtin.{RefOf}
 use denote.Exit.{yes}
-use denote.RattleType.{owns}
+use denote.RattleType.{Valss, owns}
 use denote.Ref.{shr_vals, shr_Tells}
 use denote.Signature.{plain, types_at}
 use denote.Steps.{nothing}
+use denote.Struct.Struct.{within}
 use denote.Triple.Entry.{alive}
 use denote.Triple.Walked.{says, Stays, stay_dropped, Goes-dropped, walk_of, ends_at}
-use Rattle.canvas.proofs.Walks.{bare, bare_made}
 use Rattle.rna_code.specs.contracts.acts.Ink as Ink
 use Rattle.canvas.specs.contracts.history.History as History
 use Rattle.canvas.specs.contracts.history.History.and as f
 use Rattle.canvas.proofs.history.History.and.Statement.{statement}
 use Rattle.canvas.proofs.history.History.and.Code as code
+
+-- a history has no field at run time, so its memory is that of an empty struct
+abbrev memory : List Val
+memory = vstruct vnil ∷ []
 
 abbrev stayed : Stays f.ended.signature.params f.ended.kept
 stayed = (stay_dropped _ yes, (stay_dropped _ yes, tt))
@@ -43,7 +48,9 @@ and_spec 𝓤 𝓛 𝓜 𝓡 wired =
     keep ! (0 ∷ []) $ split ! $ keep ! (0 ∷ []) $
     enter ! _ _ _ _ _ $ alloc_all ! (λ l. pass_all ! refl ((tt, tt), ((tt, tt), tt)) $
     sets ! (agg ! (no_more !)) refl (tt, tt) $
-    nothing ! $ bare_made ! $ fjoin ! $
+    nothing ! $
+    nothing ! $ feq_i ! (List Val) memory memory refl $ fjoin ! $ fpack ! (Valss []) (within (record { name = []; args = []; types = []; fields = [] }) tt memory) tt $
+    fjoin ! $
     returns ! (look_at ! 0 refl) $ free_all ! refl $
-    suffices ! _ (ends_at 𝓛 f.ended stayed c y bare made (tt, (tt, tt)) (tt, (tt, tt))) $ says ! refl $
+    suffices ! _ (ends_at 𝓛 f.ended stayed c y (vstruct vnil) made (tt, (tt, tt)) (tt, (tt, tt))) $ says ! refl $
     nothing ! $ nothing ! $ fjoin ! $ nothing ! $ fjoin ! $ move ! (2 ∷ 0 ∷ 1 ∷ []) $ done !))
