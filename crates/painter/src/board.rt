@@ -68,7 +68,7 @@ impl<const SIDE: usize, const MAX: usize> Board<SIDE, MAX> {
         match act {
             Act::Add(ink) => self.bucket.add(ink),
             Act::EmptyBucket => self.bucket.empty(),
-            Act::Move => self.position = self.facing.from(self.position, SIDE as u32),
+            Act::Move => self.position = self.facing.step(self.position, SIDE as u32),
             Act::TurnLeft => self.facing = self.facing.left(),
             Act::TurnRight => self.facing = self.facing.right(),
             Act::Mark => self.mark = self.position,

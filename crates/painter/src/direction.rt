@@ -40,13 +40,13 @@ impl Direction {
     }
 
     // One pixel further, round the edges of a bitmap of this side.
-    pub(crate) fn from(self, spot: Spot, side: u32) -> Spot
+    pub(crate) fn step(self, from: Spot, side: u32) -> Spot
         requires side { side ≤ 1024 }
-        requires inside { (spot.x < side) × (spot.y < side) }
-        ensures spot { result ≡ moved side self spot }
+        requires inside { (from.x < side) × (from.y < side) }
+        ensures spot { result ≡ moved side self from }
         ensures inside { (result.x < side) × (result.y < side) }
     {
-        let Spot { x, y } = spot;
+        let Spot { x, y } = from;
         match self {
             Direction::North => Spot {
                 x,
