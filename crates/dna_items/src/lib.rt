@@ -4,5 +4,5 @@
 mod item_lists;
 mod items;
 
-pub use item_lists::{PatList, TplList};
+pub use item_lists::{Balanced, PatList, TplList};
 pub use items::{BIG, PatItem, TplItem};

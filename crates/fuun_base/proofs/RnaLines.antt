@@ -6,8 +6,8 @@ use Rattle.std.proofs.lemmas.Bool.{lt-leb, le-leb, ltb-false}
 use Rattle.std.proofs.lemmas.List.Sums.{prefix_len-le-length}
 use Rattle.std.proofs.lemmas.List.{drop_all, take_more_set}
 use Rattle.fuun_base.specs.declared.letters.Base.{Base}
-use Rattle.fuun_base.specs.Letter.{base_of}
-use Rattle.fuun_base.specs.RnaFile.{before_lines, command_of, commands, first_bad, is_allowed, is_blank, is_command, lines}
+use Rattle.fuun_base.specs.Letter.{base_of, is_blank}
+use Rattle.fuun_base.specs.RnaFile.{before_lines, command_of, commands, first_bad, is_allowed, is_command, lines}
 
 -- a byte is a line feed
 abbrev is_feed : ℕ → Bool

@@ -1,4 +1,4 @@
-use Rattle.std.specs.Prelude.{ℕ, ◌==◌, if◌then◌else◌, Option, Some, None}
+use Rattle.std.specs.Prelude.{ℕ, ◌==◌, ◌||◌, if◌then◌else◌, Bool, Option, Some, None, is_some}
 use Rattle.fuun_base.specs.declared.letters.Base.{Base}
 use Rattle.fuun_base.specs.declared.letters.Base.TheVariants.{I, C, F, P}
 
@@ -17,3 +17,11 @@ base_of byte =
     else if byte == 70 then Some F
     else if byte == 80 then Some P
     else None
+
+-- a byte is the letter of a base
+abbrev pub is_letter : ℕ → Bool
+is_letter byte = is_some (base_of byte)
+
+-- space, tab and carriage return, which DNA and RNA files may hold anywhere
+abbrev pub is_blank : ℕ → Bool
+is_blank byte = byte == 32 || (byte == 9 || byte == 13)

@@ -1,12 +1,8 @@
 -- What an RNA file stands for.
-use Rattle.std.specs.Prelude.{ℕ, ◌==◌, ◌&&◌, ◌||◌, if◌then◌else◌, Bool, List, [], ◌∷◌, Option, length, map, not, is_some, nat_le}
+use Rattle.std.specs.Prelude.{ℕ, ◌==◌, ◌&&◌, ◌||◌, if◌then◌else◌, Bool, List, [], ◌∷◌, Option, length, map, not, nat_le}
 use Rattle.std.specs.List.{list_all, filter_map, position_from}
 use Rattle.fuun_base.specs.declared.letters.Base.{Base}
-use Rattle.fuun_base.specs.Letter.{base_of}
-
--- space, tab and carriage return
-abbrev pub is_blank : ℕ → Bool
-is_blank byte = byte == 32 || (byte == 9 || byte == 13)
+use Rattle.fuun_base.specs.Letter.{base_of, is_letter, is_blank}
 
 -- a byte before the lines that follow it
 abbrev pub before_lines : ℕ → List (List ℕ) → List (List ℕ)
@@ -24,7 +20,7 @@ command_of line = filter_map base_of line
 
 -- a byte is a letter of a base or a blank
 abbrev pub is_allowed : ℕ → Bool
-is_allowed byte = is_some (base_of byte) || is_blank byte
+is_allowed byte = is_letter byte || is_blank byte
 
 -- a line holds at most seven letters, and blanks
 abbrev pub is_command : List ℕ → Bool

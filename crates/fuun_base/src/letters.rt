@@ -1,5 +1,5 @@
 ghost use Rattle.std.specs.Prelude.{◌≡◌};
-ghost use Rattle.fuun_base.specs.Letter.{letter_of, base_of};
+ghost use Rattle.fuun_base.specs.Letter.{letter_of, base_of, is_blank};
 
 /// One base of DNA.
 #[derive(Clone, Copy, Debug, PartialEq, Eq)]
@@ -35,4 +35,11 @@ impl Base {
             Base::P => b'P',
         }
     }
+}
+
+/// Whether a byte is a space, a tab or a carriage return.
+pub(crate) fn is_blank(byte: u8) -> bool
+    ensures { result ≡ is_blank byte }
+{
+    byte == b' ' || byte == b'\t' || byte == b'\r'
 }

@@ -15,7 +15,7 @@ pub use commands::Command;
 pub use counter::Steps;
 pub use dna_file::{DnaError, read_dna};
 pub use letters::Base;
-pub use lists::{BaseList, CommandList, NoMemory};
+pub use lists::{BaseList, CommandList, List, NoMemory};
 pub use quoting::{asnat_into, quote_into};
 pub use rna_file::{RnaError, read_rna};
 pub use tally::Tally;

@@ -21,98 +21,44 @@ impl<T: Drop> From<AllocFailed<T>> for NoMemory {
     }
 }
 
-/// A list of bases.
+/// A list that grows at its end.
 #[derive(Debug, Drop)]
-pub struct BaseList {
-    items: Vec<Base>,
+pub struct List<T: Drop> {
+    items: Vec<T>,
 }
 
-impl Model for BaseList {
-    ghost use Rattle.std.specs.Prelude.{List};
-    ghost use Rattle.fuun_base.specs.declared.letters.Base.{Base};
-
-    ghost Value = { List Base };
-
-    ghost view = { λ list. list.items.items };
-}
-
-impl BaseList {
-    pub fn new(alloc: Global) -> Self
-        ensures { result ≡ [] }
-    {
-        BaseList {
-            items: Vec::new(alloc),
-        }
-    }
-
-    /// The list of a vector's bases, with no memory taken.
-    pub fn from_vec(items: Vec<Base>) -> Self
-        ensures { result ≡ items.items }
-    {
-        BaseList { items }
-    }
-
-    /// Adds a base at the end.
-    pub fn push(&mut self, item: Base) -> Result<(), NoMemory>
-        ensures added { OnOk result (self.new ≡ self.old ++ item ∷ []) }
-        ensures unchanged { OnErr result (self.new ≡ self.old) }
-    {
-        self.items.push(item)?;
-        Ok(())
-    }
-
-    pub fn len(&self) -> usize
-        ensures { result ≡ length self.now }
-    {
-        self.items.len()
-    }
-
-    pub fn is_empty(&self) -> bool
-        ensures { IsTrue result ↔ (self.now ≡ []) }
-    {
-        self.items.is_empty()
-    }
-
-    /// The base at an index: None exactly at or past the length.
-    pub fn get(&self, index: usize) -> Option<&Base>
-        ensures { option_copied result ≡ slice_get self.now index }
-    {
-        self.items.get(index)
-    }
-
-    pub fn as_slice(&self) -> &[Base]
-        ensures { result.now ≡ self.now }
-    {
-        self.items.as_slice()
-    }
-}
+/// A list of bases.
+pub type BaseList = List<Base>;
 
 /// A list of commands of RNA, each seen as its bases.
-#[derive(Debug, Drop)]
-pub struct CommandList {
-    items: Vec<Command>,
-}
+pub type CommandList = List<Command>;
 
-impl Model for CommandList {
-    ghost use Rattle.std.specs.Prelude.{List};
-    ghost use Rattle.fuun_base.specs.declared.letters.Base.{Base};
+impl<T: Drop> Model for List<T> {
+    ghost use Rattle.std.specs.Prelude.{List as ListOf};
 
-    ghost Value = { List (List Base) };
+    ghost Value = { ListOf T };
 
     ghost view = { λ list. list.items.items };
 }
 
-impl CommandList {
+impl<T: Drop> List<T> {
     pub fn new(alloc: Global) -> Self
         ensures { result ≡ [] }
     {
-        CommandList {
+        List {
             items: Vec::new(alloc),
         }
     }
 
-    /// Adds a command at the end.
-    pub fn push(&mut self, item: Command) -> Result<(), NoMemory>
+    /// The list of a vector's items, with no memory taken.
+    pub fn from_vec(items: Vec<T>) -> Self
+        ensures { result ≡ items.items }
+    {
+        List { items }
+    }
+
+    /// Adds an item at the end.
+    pub fn push(&mut self, item: T) -> Result<(), NoMemory>
         ensures added { OnOk result (self.new ≡ self.old ++ item ∷ []) }
         ensures unchanged { OnErr result (self.new ≡ self.old) }
     {
@@ -132,14 +78,14 @@ impl CommandList {
         self.items.is_empty()
     }
 
-    /// The command at an index: None exactly at or past the length.
-    pub fn get(&self, index: usize) -> Option<&Command>
+    /// The item at an index: None exactly at or past the length.
+    pub fn get(&self, index: usize) -> Option<&T>
         ensures { option_copied result ≡ slice_get self.now index }
     {
         self.items.get(index)
     }
 
-    pub fn as_slice(&self) -> &[Command]
+    pub fn as_slice(&self) -> &[T]
         ensures { result.now ≡ self.now }
     {
         self.items.as_slice()

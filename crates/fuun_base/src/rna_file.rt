@@ -1,7 +1,8 @@
 ghost use Rattle.std.specs.Prelude.{◌≡◌, ℕ, ◌+◌, ◌≤◌, ◌==◌, false, true, drop, length, position, unwrap_or, IfOk, MatchOption, OnOk};
 ghost use Rattle.fuun_base.specs.declared.rna_file.RnaError.TheVariants.{NoMemory as OutOfMemory};
-ghost use Rattle.fuun_base.specs.RnaFile.{command_of, commands, first_bad, is_blank, is_command};
+ghost use Rattle.fuun_base.specs.RnaFile.{command_of, commands, first_bad, is_command};
 
+use crate::letters::is_blank;
 use crate::{Base, Command, CommandList, NoMemory};
 use std::alloc::Global;
 
@@ -85,10 +86,4 @@ fn read_line(line: &[u8]) -> Option<Command>
         }
     }
     Command::from_bases(&bases[..len])
-}
-
-fn is_blank(byte: u8) -> bool
-    ensures { result ≡ is_blank byte }
-{
-    byte == b' ' || byte == b'\t' || byte == b'\r'
 }

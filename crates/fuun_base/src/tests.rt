@@ -10,14 +10,16 @@ fn bases_of(alloc: Global, text: &str) -> Result<BaseList, Fail> {
     Ok(read_dna(alloc, text.as_bytes())?)
 }
 
-fn tick_twice<L: Ledger>(blank: Blank)
+fn ticked_twice<L: Ledger>(blank: Blank) -> Steps<L>
     requires name { blank.name ≡ L.name }
     requires parts { blank.parts ≡ L.parts }
     requires some { 0 < L.parts }
+    ensures { result ≡ 2 }
 {
     let mut steps = Steps::<L>::new(blank);
     steps.tick();
     steps.tick();
+    steps
 }
 
 #[test]
@@ -36,15 +38,34 @@ fn letters_stand_for_bases(rt: HostRuntime) {
     }
 }
 
+// Seventy letters: more than are read at once.
+const LONG: &str = "IIPIPICPIICICIIFICCIFPPIICCFPCICFPICFPICFPICFPICFPICFPICFPICFPICFPICFP";
+
 #[test]
-fn dna_files_hold_letters_alone(rt: HostRuntime) -> Result<(), Fail> {
+fn dna_files_hold_letters_and_blanks(rt: HostRuntime) -> Result<(), Fail> {
     let read = bases_of(rt.alloc(), "ICFP")?;
     assert_eq!(rt;
         read.as_slice(),
         [Base::I, Base::C, Base::F, Base::P].as_slice()
     );
+    for text in ["I\nCFP", " I\tC\rF\nP \n", "ICFP "] {
+        assert_eq!(rt;
+            bases_of(rt.alloc(), text)?.as_slice(),
+            read.as_slice(),
+            "at {text:?}"
+        );
+    }
     assert!(rt; bases_of(rt.alloc(), "")?.is_empty());
-    for (text, place) in [("IIPIPC\nXCF", 6), ("iip", 0), ("ICFP ", 4), ("IXPx", 1)] {
+    let mut text = String::new(rt.alloc());
+    text.push_str(LONG)?;
+    assert_eq!(rt; bases_of(rt.alloc(), text.as_str())?.len(), 70);
+    text.push_str("\n ICFPX")?;
+    for (text, place) in [
+        ("IIPIPC\nXCF", 7),
+        ("iip", 0),
+        ("IXPx", 1),
+        (text.as_str(), 76),
+    ] {
         let refused = read_dna(rt.alloc(), text.as_bytes()).err();
         assert_eq!(rt; refused, Some(DnaError::BadBase { place }), "at {text}");
     }
@@ -170,5 +191,5 @@ fn commands_have_seven_places(rt: HostRuntime) -> Result<(), Fail> {
 
 #[test]
 fn steps_are_counted() {
-    tick_twice::<Brand>(Blank::new(1));
+    let _steps = ticked_twice::<Brand>(Blank::new(1));
 }

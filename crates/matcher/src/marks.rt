@@ -1,7 +1,6 @@
 ghost use Rattle.std.specs.Prelude.{◌≡◌, ◌<◌, [], length, OnOk};
 ghost use Rattle.matcher.specs.Step.{Marked};
 
-use crate::GroupList;
 use dna_items::PatItem;
 use fuun_base::NoMemory;
 use smallvec::SmallVec;
@@ -11,24 +10,24 @@ use std::alloc::Global;
 #[derive(Drop)]
 pub struct Marks {
     pub starts: SmallVec<u64, 8>,
-    pub ended: GroupList,
+    pub ended: SmallVec<(u64, u64), 8>,
 }
 
 impl Marks {
     pub fn new(alloc: Global) -> Self
         ensures starts { result.starts.items ≡ [] }
-        ensures ended { result.ended ≡ [] }
+        ensures ended { result.ended.items ≡ [] }
     {
         Marks {
             starts: SmallVec::new(alloc),
-            ended: GroupList::new(alloc),
+            ended: SmallVec::new(alloc),
         }
     }
 
     /// What an item at a place starts or ends.
     pub fn mark(&mut self, item: &PatItem, at: u64) -> Result<(), NoMemory>
         requires { item.now ≡ PatItem.GroupStop → 0 < length self.old.starts.items }
-        ensures { OnOk result (Marked item.now at self.old.starts.items self.old.ended self.new.starts.items self.new.ended) }
+        ensures { OnOk result (Marked item.now at self.old.starts.items self.old.ended.items self.new.starts.items self.new.ended.items) }
     {
         match item {
             PatItem::GroupStart => self.start(at),
@@ -38,7 +37,7 @@ impl Marks {
     }
 
     fn start(&mut self, at: u64) -> Result<(), NoMemory>
-        ensures { OnOk result (Marked PatItem.GroupStart at self.old.starts.items self.old.ended self.new.starts.items self.new.ended) }
+        ensures { OnOk result (Marked PatItem.GroupStart at self.old.starts.items self.old.ended.items self.new.starts.items self.new.ended.items) }
     {
         self.starts.push(at)?;
         Ok(())
@@ -46,9 +45,10 @@ impl Marks {
 
     fn end(&mut self, at: u64) -> Result<(), NoMemory>
         requires { 0 < length self.old.starts.items }
-        ensures { OnOk result (Marked PatItem.GroupStop at self.old.starts.items self.old.ended self.new.starts.items self.new.ended) }
+        ensures { OnOk result (Marked PatItem.GroupStop at self.old.starts.items self.old.ended.items self.new.starts.items self.new.ended.items) }
     {
         let start = self.starts.pop().unwrap();
-        self.ended.push((start, at))
+        self.ended.push((start, at))?;
+        Ok(())
     }
 }

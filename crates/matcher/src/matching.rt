@@ -46,6 +46,6 @@ pub fn match_at<S: Strand>(
     }
     Ok(MatchEnd::Matched {
         stop: at,
-        groups: marks.ended,
+        groups: GroupList::from_vec(marks.ended.into_vec()?),
     })
 }

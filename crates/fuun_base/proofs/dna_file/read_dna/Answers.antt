@@ -1,26 +1,44 @@
-use Rattle.std.proofs.Common.{◌≡◌, arith, below_more, sym, ◌∙◌, Some, None, get_or, ap}
-use Rattle.std.specs.Prelude.{is_none}
-use Rattle.std.proofs.lemmas.Grind.{common_steps}
-use Rattle.fuun_base.specs.Letter.{base_of}
-use Rattle.fuun_base.proofs.Reading.{no_other, first_other_at, bases_more}
+use Rattle.std.proofs.Common.{◌≡◌, ℕ, ◌+◌, ◌-◌, ◌<◌, ◌≤◌, List, ◌++◌, Some, length, take, slice_range, arith, ap, ◌∙◌}
+use Rattle.std.proofs.lemmas.List.{take_all}
+use Rattle.fuun_base.specs.DnaFile.{bases, first_other}
+use Rattle.fuun_base.proofs.Reading.{length_block, bases_on, clean_more, stops_at, first_other_at, no_other, length-bases_le}
 use Rattle.fuun_base.proofs.dna_file.read_dna.Goals as goal
 
-pub returns-clause-no_other : goal.returns-clause-no_other
-returns-clause-no_other c = no_other c.args.bytes.now c.loop-place.place c.loop-place-test.false c.loop-place.invariant.letters
+pub returns-then-count-block-clause-other : goal.returns-then-count-block-clause-other
+returns-then-count-block-clause-other c place e =
+    let bytes : List ℕ = c.args.bytes.now in
+    let done = c.loop-done.done in
+    let count = c.in_ok-count.count in
+    let end = c.min.result in
+    let front = c.in_ok-count.ensures.front in
+    let long : length (slice_range bytes done end) ≡ end - done = length_block bytes done end (omega arith) in
+    let short : done + count < end = omega (arith, c.if-count-block.true) in
+    let here : first_other bytes ≡ Some (done + count) =
+    first_other_at bytes (done + count) (omega arith)
+    (clean_more bytes done end count (omega arith) c.loop-done.invariant.clean front.clean)
+    (stops_at bytes done end count short (front.stops (omega arith))) in
+    let same : done + count ≡ place = cc in
+    here ∙ ap Some same
 
-pub returns-in_default-clause-other : goal.returns-in_default-clause-other
-returns-in_default-clause-other c place e =
-    let is : base_of (get_or c.args.bytes.now c.loop-place.place 0) ≡ None = sym c.from_letter.ensures ∙ c.in_default.is in
-    let first = first_other_at c.args.bytes.now c.loop-place.place c.loop-place-test.true c.loop-place.invariant.letters is in
-    cc (first, e)
-
-pub loop-place-preserved : goal.loop-place-preserved
-loop-place-preserved c =
-    let is : base_of (get_or c.args.bytes.now c.loop-place.place 0) ≡ Some c.in-Some.base = sym c.from_letter.ensures ∙ c.in-Some.is in
-    let more = bases_more c.args.bytes.now c.loop-place.place c.in-Some.base c.loop-place-test.true is in
+pub loop-done-preserved : goal.loop-done-preserved
+loop-done-preserved c =
+    let bytes : List ℕ = c.args.bytes.now in
+    let done = c.loop-done.done in
+    let count = c.in_ok-count.count in
+    let end = c.min.result in
+    let front = c.in_ok-count.ensures.front in
+    let long : length (slice_range bytes done end) ≡ end - done = length_block bytes done end (omega arith) in
+    let within : done + count ≤ end = omega (arith, front.within) in
     record {
-      read = cc (more, c.push_reserved.ensures.items, c.loop-place.invariant.read);
-      letters = below_more _ _ c.loop-place.invariant.letters (ap is_none is);
-      count = grind (arith, common_steps);
-      room = grind (arith, common_steps);
+      within = omega arith;
+      read = c.in_ok-count.ensures.added ∙ ap (λ d. d ++ bases (take count (slice_range bytes done end))) c.loop-done.invariant.read ∙ bases_on bytes done end count within;
+      clean = clean_more bytes done end count within c.loop-done.invariant.clean front.clean;
     }
+
+pub returns-clause-most : goal.returns-clause-most
+returns-clause-most c =
+    let whole : c.from_vec.result ≡ bases (take c.loop-done.done c.args.bytes.now) = c.from_vec.ensures ∙ c.loop-done.invariant.read in
+    omega (arith, ap length whole, length-bases_le (take c.loop-done.done c.args.bytes.now), ap length (take_all c.loop-done.done c.args.bytes.now c.loop-done-test.false))
+
+pub returns-clause-no_other : goal.returns-clause-no_other
+returns-clause-no_other c = no_other c.args.bytes.now c.loop-done.done c.loop-done-test.false c.loop-done.invariant.clean

@@ -1,7 +1,7 @@
 use Rattle.std.proofs.Common.{rules, subst, sym}
 use Rattle.dna_items.specs.Balance.{IsBalanced}
 use Rattle.dna_items.proofs.Balances.{depth_more, depth_fails}
-use Rattle.dna_items.proofs.item_lists.PatList.is_balanced.Goals as goal
+use Rattle.dna_items.proofs.item_lists.PatListBalanced.is_balanced.Goals as goal
 
 pub returns-in_default : goal.returns-in_default
 returns-in_default c =
