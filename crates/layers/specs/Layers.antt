@@ -37,6 +37,10 @@ top_of (top ∷ below) = top
 abbrev pub with_layer : ℕ → ℕ → List (List Rgba) → List (List Rgba)
 with_layer side most layers = if nat_lt (length layers) most then blank side ∷ layers else layers
 
+-- with a copy of the top bitmap on top, where there are fewer than `most`
+abbrev pub with_copy : ℕ → List (List Rgba) → List (List Rgba)
+with_copy most layers = if nat_lt (length layers) most then top_of layers ∷ layers else layers
+
 -- with the two top ones made one, where there are two
 abbrev pub with_merged : (Rgba → Rgba → Rgba) → List (List Rgba) → List (List Rgba)
 with_merged f [] = []

@@ -3,7 +3,7 @@
 ghost use Rattle.std.specs.Prelude.{◌≡◌, ◌≤◌, [], ◌∷◌, IfOk, length, vec_len};
 ghost use Rattle.std.specs.Vec.{vec_capacity};
 ghost use Rattle.canvas.specs.Pixels.{IsSquare, blank};
-ghost use Rattle.layers.specs.Layers.{with_layer, with_clipped, with_composed, top_of};
+ghost use Rattle.layers.specs.Layers.{with_clipped, with_composed, with_copy, with_layer, top_of};
 
 use crate::blend;
 use canvas::Bitmap;
@@ -81,6 +81,17 @@ impl<const SIDE: usize, const MAX: usize> Layers<SIDE, MAX> {
         if let Some(mut fresh) = self.spare.pop() {
             fresh.clear();
             let covered = std::mem::replace(&mut self.top, fresh);
+            self.below.push_reserved(covered);
+        }
+    }
+
+    /// Puts a copy of the top bitmap on top, where there are fewer than `MAX`; else it does nothing.
+    pub fn copy(&mut self)
+        ensures { self.new ≡ with_copy MAX self.old }
+    {
+        if let Some(mut copy) = self.spare.pop() {
+            copy.pixels_mut().copy_from_slice(self.top.pixels());
+            let covered = std::mem::replace(&mut self.top, copy);
             self.below.push_reserved(covered);
         }
     }

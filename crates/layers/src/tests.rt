@@ -51,6 +51,22 @@ fn two_layers_are_clipped(rt: HostRuntime) -> Result<(), Fail> {
 }
 
 #[test]
+fn the_top_layer_is_copied(rt: HostRuntime) -> Result<(), Fail> {
+    let mut layers = blue_on_red(rt.alloc())?;
+    layers.copy();
+    assert_eq!(rt; layers.count(), 3);
+    layers.top_mut().set(ORIGIN, Pixel::of(1, 2, 3, 4));
+    layers.copy();
+    assert_eq!(rt; layers.count(), 3);
+    assert_eq!(rt; layers.top().get(ORIGIN), Pixel::of(1, 2, 3, 4));
+    layers.clip();
+    layers.copy();
+    assert_eq!(rt; layers.count(), 3);
+    assert_eq!(rt; layers.top().get(ORIGIN), Pixel::of(0, 0, 1, 1));
+    Ok(())
+}
+
+#[test]
 fn there_is_room_for_most(rt: HostRuntime) -> Result<(), Fail> {
     let mut layers = blue_on_red(rt.alloc())?;
     layers.add();

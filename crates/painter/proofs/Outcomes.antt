@@ -1,8 +1,8 @@
 -- An act and a list of commands have one outcome.
-use Rattle.std.proofs.Common.{◌≡◌, ℕ, List, [], ◌∷◌, ◌++◌, Option, Some, None, sym, subst, ◌∙◌}
+use Rattle.std.proofs.Common.{◌≡◌, ℕ, List, [], ◌∷◌, Option, Some, None, sym, subst, ◌∙◌}
 use Rattle.fuun_base.specs.declared.letters.Base.{Base}
 use Rattle.rna_code.specs.declared.acts.Act.{Act}
-use Rattle.rna_code.specs.declared.acts.Act.TheVariants.{Add, EmptyBucket, Move, TurnLeft, TurnRight, Mark, Line, Fill, AddLayer, Compose, Clip}
+use Rattle.rna_code.specs.declared.acts.Act.TheVariants.{Add, EmptyBucket, Move, TurnLeft, TurnRight, Mark, Line, Fill, AddLayer, CopyLayer, Compose, Clip}
 use Rattle.canvas.specs.Buckets.{pixel_of}
 use Rattle.line_draw.specs.Lines.{IsLine}
 use Rattle.line_draw.proofs.Points.{one_line}
@@ -22,6 +22,7 @@ acts_once side most Mark p q r a b = a ∙ sym b
 acts_once side most Line p q r a b = drawn_once p q r (λ was now. IsLine side was p.at p.mark (pixel_of p.bucket) now) (λ m n. one_line side (top_of p.layers) m n p.at p.mark (pixel_of p.bucket)) a b
 acts_once side most Fill p q r a b = drawn_once p q r (λ was now. IsFill side was p.at (pixel_of p.bucket) now) (λ m n. one_fill side (top_of p.layers) m n p.at (pixel_of p.bucket)) a b
 acts_once side most AddLayer p q r a b = a ∙ sym b
+acts_once side most CopyLayer p q r a b = a ∙ sym b
 acts_once side most Compose p q r a b = a ∙ sym b
 acts_once side most Clip p q r a b = a ∙ sym b
 
@@ -35,10 +36,3 @@ builds_once side most table (command ∷ rest) p q r a b =
     let same : a.0 ≡ b.0 = any_once side most (table command) p a.0 b.0 a.1.0 b.1.0 in
     let P : Picture → Type 0 = λ m. Builds side most table rest m r in
     builds_once side most table rest a.0 q r a.1.1 (subst P (sym same) b.1.1)
-
--- commands after commands
-pub builds_append : (side most : ℕ) (table : Table) (first last : List (List Base)) (p q r : Picture) → Builds side most table first p q → Builds side most table last q r → Builds side most table (first ++ last) p r
-builds_append side most table [] last p q r a b =
-    let P : Picture → Type 0 = λ m. Builds side most table last m r in
-    subst P a b
-builds_append side most table (command ∷ rest) last p q r a b = (a.0, (a.1.0, builds_append side most table rest last a.0 q r a.1.1 b))

@@ -6,13 +6,13 @@ use Rattle.std.proofs.Math.ListN.{length-replicate}
 use Rattle.fuun_base.specs.declared.letters.Base.{Base}
 use Rattle.rna_code.specs.declared.acts.Ink.{Ink}
 use Rattle.rna_code.specs.declared.acts.Act.{Act}
-use Rattle.rna_code.specs.declared.acts.Act.TheVariants.{Add, EmptyBucket, Move, TurnLeft, TurnRight, Mark, Line, Fill, AddLayer, Compose, Clip}
+use Rattle.rna_code.specs.declared.acts.Act.TheVariants.{Add, EmptyBucket, Move, TurnLeft, TurnRight, Mark, Line, Fill, AddLayer, CopyLayer, Compose, Clip}
 use Rattle.canvas.specs.declared.pixel.Spot.{Spot}
 use Rattle.canvas.specs.Pixels.{Rgba, IsSquare, blank, transparent}
 use Rattle.canvas.specs.Buckets.{pixel_of}
 use Rattle.line_draw.specs.Lines.{IsLine}
 use Rattle.flood.specs.Region.{IsFill, IsInside}
-use Rattle.layers.specs.Layers.{clipped, over, top_of, with_layer, with_merged}
+use Rattle.layers.specs.Layers.{clipped, over, top_of, with_copy, with_layer, with_merged}
 use Rattle.layers.specs.Lending.{with_top}
 use Rattle.layers.proofs.EachPlace.{length-each_place}
 use Rattle.painter.specs.declared.direction.Direction.{Direction}
@@ -55,6 +55,16 @@ layer_added side most layers true is nonempty small are =
     rw is (record { some = omega arith; few = omega arith; squares = (blank_square side nonempty small, are.squares) })
 layer_added side most layers false is nonempty small are = rw is are
 
+top_square : (side most : ℕ) (layers : List (List Rgba)) → AreLayers side most layers → IsSquare side (top_of layers)
+top_square side most [] are = absurd (omega (arith, are.some))
+top_square side most (top ∷ below) are = are.squares.0
+
+layer_copied : (side most : ℕ) (layers : List (List Rgba)) (room : Bool) → nat_lt (length layers) most ≡ room → AreLayers side most layers → AreLayers side most (with_copy most layers)
+layer_copied side most layers true is are =
+    let below : length layers < most = ltb-true (length layers) most is in
+    rw is (record { some = omega arith; few = omega arith; squares = (top_square side most layers are, are.squares) })
+layer_copied side most layers false is are = rw is are
+
 merged : (side most : ℕ) (f : Rgba → Rgba → Rgba) (layers : List (List Rgba)) → AreLayers side most layers → AreLayers side most (with_merged f layers)
 merged side most f [] are = are
 merged side most f (top ∷ []) are = are
@@ -67,10 +77,6 @@ merged side most f (top ∷ next ∷ below) are =
       few = omega (arith, are.few);
       squares = (record { nonempty = a.nonempty; small = a.small; filled = length-each_place f top next same ∙ a.filled }, are.squares.1.1);
     }
-
-top_square : (side most : ℕ) (layers : List (List Rgba)) → AreLayers side most layers → IsSquare side (top_of layers)
-top_square side most [] are = absurd (omega (arith, are.some))
-top_square side most (top ∷ below) are = are.squares.0
 
 top_drawn : (side most : ℕ) (layers : List (List Rgba)) (now : List Rgba) → IsSquare side now → AreLayers side most layers → AreLayers side most (with_top layers now)
 top_drawn side most [] now square are = absurd (omega (arith, are.some))
@@ -112,6 +118,7 @@ acts_always side most Mark p is = (record p { mark = p.at }, (refl, with_rest si
 acts_always side most Line p is = line_outcome side most p is
 acts_always side most Fill p is = fill_outcome side most p is
 acts_always side most AddLayer p is = (record p { layers = with_layer side most p.layers }, (refl, with_layers side most p (with_layer side most p.layers) is (layer_added side most p.layers (nat_lt (length p.layers) most) refl is.nonempty is.small (layers_of side most p is))))
+acts_always side most CopyLayer p is = (record p { layers = with_copy most p.layers }, (refl, with_layers side most p (with_copy most p.layers) is (layer_copied side most p.layers (nat_lt (length p.layers) most) refl (layers_of side most p is))))
 acts_always side most Compose p is = (record p { layers = with_merged over p.layers }, (refl, with_layers side most p (with_merged over p.layers) is (merged side most over p.layers (layers_of side most p is))))
 acts_always side most Clip p is = (record p { layers = with_merged clipped p.layers }, (refl, with_layers side most p (with_merged clipped p.layers) is (merged side most clipped p.layers (layers_of side most p is))))
 

@@ -2,3 +2,4 @@ pub mod Picture
 pub mod PictureLaws
 pub mod Board
 pub mod Painting
+pub mod Taking

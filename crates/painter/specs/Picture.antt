@@ -3,13 +3,13 @@ use Rattle.std.specs.Prelude.{◌≡◌, ℕ, ◌+◌, ◌-◌, ◌%◌, List, [
 use Rattle.fuun_base.specs.declared.letters.Base.{Base}
 use Rattle.rna_code.specs.declared.acts.Ink.{Ink}
 use Rattle.rna_code.specs.declared.acts.Act.{Act}
-use Rattle.rna_code.specs.declared.acts.Act.TheVariants.{Add, EmptyBucket, Move, TurnLeft, TurnRight, Mark, Line, Fill, AddLayer, Compose, Clip}
+use Rattle.rna_code.specs.declared.acts.Act.TheVariants.{Add, EmptyBucket, Move, TurnLeft, TurnRight, Mark, Line, Fill, AddLayer, CopyLayer, Compose, Clip}
 use Rattle.canvas.specs.declared.pixel.Spot.{Spot}
 use Rattle.canvas.specs.Pixels.{Rgba, blank}
 use Rattle.canvas.specs.Buckets.{pixel_of}
 use Rattle.line_draw.specs.Lines.{IsLine}
 use Rattle.flood.specs.Region.{IsFill}
-use Rattle.layers.specs.Layers.{top_of, with_clipped, with_composed, with_layer}
+use Rattle.layers.specs.Layers.{top_of, with_clipped, with_composed, with_copy, with_layer}
 use Rattle.layers.specs.Lending.{with_top}
 use Rattle.painter.specs.declared.direction.Direction.{Direction}
 use Rattle.painter.specs.declared.direction.Direction.TheVariants.{North, East, South, West}
@@ -67,10 +67,11 @@ Does side most Mark p q = q ≡ record p { mark = p.at }
 Does side most Line p q = IsDrawn p q (λ was now. IsLine side was p.at p.mark (pixel_of p.bucket) now)
 Does side most Fill p q = IsDrawn p q (λ was now. IsFill side was p.at (pixel_of p.bucket) now)
 Does side most AddLayer p q = q ≡ record p { layers = with_layer side most p.layers }
+Does side most CopyLayer p q = q ≡ record p { layers = with_copy most p.layers }
 Does side most Compose p q = q ≡ record p { layers = with_composed p.layers }
 Does side most Clip p q = q ≡ record p { layers = with_clipped p.layers }
 
--- what a row of the table makes of a picture; without a row it stays
+-- what a row of a table makes of a picture; without a row it stays
 abbrev pub DoesIfAny : ℕ → ℕ → Option Act → Picture → Picture → Type 0
 DoesIfAny side most None p q = q ≡ p
 DoesIfAny side most (Some act) p q = Does side most act p q

@@ -75,6 +75,7 @@ impl<const SIDE: usize, const MAX: usize> Board<SIDE, MAX> {
             Act::Line => self.line(),
             Act::Fill => self.fill(),
             Act::AddLayer => self.layers.add(),
+            Act::CopyLayer => self.layers.copy(),
             Act::Compose => self.layers.compose(),
             Act::Clip => self.layers.clip(),
         }

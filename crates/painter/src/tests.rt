@@ -2,20 +2,23 @@ ghost use Rattle.std.specs.Prelude.{◌≤◌};
 
 use crate::Painter;
 use canvas::{Pixel, Spot};
+use dna_reader::RnaTaker;
 use fuun_base::read_rna;
+use rna_code::Profile;
 use std::alloc::Global;
 use std::test::Fail;
 
-// What the commands of some lines draw.
+// What the commands of some lines draw in a profile.
 fn drawn<const SIDE: usize, const MAX: usize>(
     alloc: Global,
     lines: &str,
+    profile: Profile,
 ) -> Result<Painter<SIDE, MAX>, Fail>
     requires side { (1 ≤ SIDE) × (SIDE ≤ 1024) }
     requires most { (1 ≤ MAX) × (MAX ≤ 16) }
 {
     let commands = read_rna(alloc, lines.as_bytes())?;
-    let mut painter = Painter::new(alloc)?;
+    let mut painter = Painter::new(alloc, profile)?;
     for command in commands.as_slice() {
         painter.paint(command);
     }
@@ -24,7 +27,7 @@ fn drawn<const SIDE: usize, const MAX: usize>(
 
 // Whether every pixel of what the lines draw on a side of 3, with at most 10 bitmaps, is this one.
 fn shows(alloc: Global, lines: &str, pixel: Pixel) -> Result<bool, Fail> {
-    let painter = drawn::<3, 10>(alloc, lines)?;
+    let painter = drawn::<3, 10>(alloc, lines, Profile::Plain)?;
     Ok(painter.top().pixels().iter().all(|shown| *shown == pixel))
 }
 
@@ -82,7 +85,7 @@ fn moves_go_round_the_edges(rt: HostRuntime) -> Result<(), Fail> {
         ("PCCCCCP\nPCCCCCP\nPCCCCCP\nPCCCCCP\n", 1),
     ] {
         let lines = format!(in rt.alloc(); "PIPIIIP\n{turns}PIIIIIP\nPCCIFFP\nPFFICCP\n")?;
-        let painter = drawn::<3, 1>(rt.alloc(), lines.as_str())?;
+        let painter = drawn::<3, 1>(rt.alloc(), lines.as_str(), Profile::Plain)?;
         let red = Pixel::of(255, 0, 0, 255);
         let mut dots = painter
             .top()
@@ -99,7 +102,7 @@ fn moves_go_round_the_edges(rt: HostRuntime) -> Result<(), Fail> {
 #[test]
 fn a_move_round_the_edge_of_a_whole_picture(rt: HostRuntime) -> Result<(), Fail> {
     let lines = "PIPIIIP\nPCCCCCP\nPIIIIIP\nPCCIFFP\nPFFICCP\n";
-    let painter = drawn::<600, 10>(rt.alloc(), lines)?;
+    let painter = drawn::<600, 10>(rt.alloc(), lines, Profile::Plain)?;
     let clear = Pixel::of(0, 0, 0, 0);
     assert_eq!(rt;
         painter.top().get(Spot { x: 0, y: 599 }),
@@ -114,5 +117,21 @@ fn a_move_round_the_edge_of_a_whole_picture(rt: HostRuntime) -> Result<(), Fail>
             .count(),
         1
     );
+    Ok(())
+}
+
+#[test]
+fn a_copied_layer_is_in_the_wide_profile_alone(rt: HostRuntime) -> Result<(), Fail> {
+    let commands = read_rna(rt.alloc(), b"PIPIIIP\nPIPIIPF\nPIPIIPP\nPIIPIIP\nPIPIIFP\nPFFPCCP\n")?;
+    for (profile, shown) in [
+        (Profile::Plain, Pixel::of(127, 0, 0, 127)),
+        (Profile::Wide, Pixel::of(190, 0, 0, 190)),
+    ] {
+        let mut painter = Painter::<3, 10>::new(rt.alloc(), profile)?;
+        for command in commands.as_slice() {
+            assert_eq!(rt; painter.take(command), Ok(()));
+        }
+        assert!(rt; painter.top().pixels().iter().all(|pixel| *pixel == shown));
+    }
     Ok(())
 }

@@ -5,10 +5,12 @@ use Rattle.std.specs.Str.{bytes_eq}
 use Rattle.fuun_base.specs.declared.letters.Base.{Base}
 use Rattle.fuun_base.specs.Letter.{letter_of}
 use Rattle.rna_code.specs.declared.acts.Act.{Act}
-use Rattle.rna_code.specs.declared.acts.Act.TheVariants.{Add, EmptyBucket, Move, TurnLeft, TurnRight, Mark, Line, Fill, AddLayer, Compose, Clip}
+use Rattle.rna_code.specs.declared.acts.Act.TheVariants.{Add, EmptyBucket, Move, TurnLeft, TurnRight, Mark, Line, Fill, AddLayer, CopyLayer, Compose, Clip}
+use Rattle.rna_code.specs.declared.profile.Profile.{Profile}
+use Rattle.rna_code.specs.declared.profile.Profile.TheVariants.{Plain, Wide}
 use Rattle.rna_code.specs.declared.acts.Ink.TheVariants.{Black, Red, Green, Yellow, Blue, Magenta, Cyan, White, Transparent, Opaque}
 
--- one row of the table: the letters of a command, its name, and what it does
+-- one row of a table: the letters of a command, its name, and what it does
 pub record Row : Type 0 where
   pub letters : List ℕ
   pub name : List ℕ
@@ -17,9 +19,14 @@ pub record Row : Type 0 where
 abbrev pub row : List ℕ → List ℕ → Act → Row
 row letters name act = record { letters = letters; name = name; act = act }
 
--- the twenty commands
-abbrev pub rows : List Row
-rows =
+-- the commands that the wide table has beside the twenty: this project's own
+abbrev pub further_rows : Profile → List Row
+further_rows Plain = []
+further_rows Wide = row (codes "PIPIIFP") (codes "copy") CopyLayer ∷ []
+
+-- the table of a profile: the twenty commands, and those that it has beside them
+abbrev pub rows_of : Profile → List Row
+rows_of profile =
     row (codes "PIPIIIC") (codes "black") (Add Black)
     ∷ row (codes "PIPIIIP") (codes "red") (Add Red)
     ∷ row (codes "PIPIICC") (codes "green") (Add Green)
@@ -40,7 +47,7 @@ rows =
     ∷ row (codes "PCCPFFP") (codes "layer") AddLayer
     ∷ row (codes "PFFPCCP") (codes "compose") Compose
     ∷ row (codes "PFFICCF") (codes "clip") Clip
-    ∷ []
+    ∷ further_rows profile
 
 -- a word is these letters
 unfoldable pub spells : List ℕ → List ℕ → Bool
@@ -50,14 +57,14 @@ spells word letters = bytes_eq word letters
 abbrev pub row_among : List Row → List ℕ → Option Row
 row_among table word = find (λ r. spells word r.letters) table
 
--- the row of a command, if it has one
-unfoldable pub row_of : List Base → Option Row
-row_of command = row_among rows (map letter_of command)
+-- the row of a command in a profile's table, if it has one
+unfoldable pub row_of : Profile → List Base → Option Row
+row_of profile command = row_among (rows_of profile) (map letter_of command)
 
 -- what a command does, if it is in the table
-abbrev pub act_of : List Base → Option Act
-act_of command = option_map (λ r. r.act) (row_of command)
+abbrev pub act_of : Profile → List Base → Option Act
+act_of profile command = option_map (λ r. r.act) (row_of profile command)
 
 -- the name of a command: `other` outside the table
-abbrev pub name_of : List Base → List ℕ
-name_of command = option_map_or (λ r. r.name) (row_of command) (codes "other")
+abbrev pub name_of : Profile → List Base → List ℕ
+name_of profile command = option_map_or (λ r. r.name) (row_of profile command) (codes "other")

@@ -46,6 +46,8 @@ pub enum Act {
     Fill,
     /// Adds a transparent bitmap.
     AddLayer,
+    /// Adds a copy of the top bitmap.
+    CopyLayer,
     /// Composes the two top bitmaps.
     Compose,
     /// Clips the two top bitmaps.

@@ -2,9 +2,11 @@
 #![tactic(auto)]
 
 mod acts;
+mod profile;
 mod table;
 
 pub use acts::{Act, Ink};
+pub use profile::Profile;
 pub use table::{decode, name};
 
 #[cfg(test)]

@@ -2,26 +2,27 @@
 
 ghost use Rattle.std.specs.Prelude.{◌≡◌};
 ghost use Rattle.std.specs.Option.{option_map};
-ghost use Rattle.rna_code.specs.Commands.{act_of, name_of, row_among, row_of, rows, spells};
+ghost use Rattle.rna_code.specs.Commands.{act_of, name_of, row_among, row_of, rows_of, spells};
 
 use crate::acts::{Act, Ink};
+use crate::profile::Profile;
 use fuun_base::Command;
 
-/// What a command does: `None` exactly for a command outside the table, which is ignored.
-pub fn decode(command: &Command) -> Option<Act>
-    ensures { result ≡ act_of command.now }
+/// What a command does: `None` exactly for a command outside the profile's table, which is ignored.
+pub fn decode(command: &Command, profile: Profile) -> Option<Act>
+    ensures { result ≡ act_of profile command.now }
 {
-    row_of(command).map(|row| row.act)
+    row_of(command, profile).map(|row| row.act)
 }
 
-/// The name of a command: `other` for a command outside the table.
-pub fn name(command: &Command) -> &'static str
-    ensures { result.now ≡ name_of command.now }
+/// The name of a command: `other` for a command outside the profile's table.
+pub fn name(command: &Command, profile: Profile) -> &'static str
+    ensures { result.now ≡ name_of profile command.now }
 {
-    row_of(command).map_or("other", |row| row.name)
+    row_of(command, profile).map_or("other", |row| row.name)
 }
 
-// One row of the table.
+// One row of a table.
 #[derive(Clone, Copy)]
 struct Row {
     name: &'static str,
@@ -29,13 +30,13 @@ struct Row {
 }
 
 // The row of a command.
-fn row_of(command: &Command) -> Option<Row>
-    ensures name { option_map (λ found. found.name.now) result ≡ option_map (λ r. r.name) (row_of command.now) }
-    ensures act { option_map (λ found. found.act) result ≡ option_map (λ r. r.act) (row_of command.now) }
+fn row_of(command: &Command, profile: Profile) -> Option<Row>
+    ensures name { option_map (λ found. found.name.now) result ≡ option_map (λ r. r.name) (row_of profile command.now) }
+    ensures act { option_map (λ found. found.act) result ≡ option_map (λ r. r.act) (row_of profile command.now) }
 {
     let mut letters = [0; 7];
     let len = command.letters(&mut letters);
-    find_row(&letters[..len])
+    find_row(&letters[..len], profile)
 }
 
 // A word is these letters.
@@ -46,14 +47,14 @@ fn spells(word: &[u8], letters: &[u8; 7]) -> bool
 }
 
 // The first row with these letters.
-fn find_row(word: &[u8]) -> Option<Row>
-    ensures name { option_map (λ found. found.name.now) result ≡ option_map (λ r. r.name) (row_among rows word.now) }
-    ensures act { option_map (λ found. found.act) result ≡ option_map (λ r. r.act) (row_among rows word.now) }
+fn find_row(word: &[u8], profile: Profile) -> Option<Row>
+    ensures name { option_map (λ found. found.name.now) result ≡ option_map (λ r. r.name) (row_among (rows_of profile) word.now) }
+    ensures act { option_map (λ found. found.act) result ≡ option_map (λ r. r.act) (row_among (rows_of profile) word.now) }
 {
     macro_rules! table {
-        ($($letters:literal $name:literal $act:expr;)*) => {
+        ($($letters:literal $name:literal $act:expr $(, $profile:expr)?;)*) => {
             $(
-                if spells(word, $letters) {
+                if spells(word, $letters) $(&& profile == $profile)? {
                     return Some(Row { name: $name, act: $act });
                 }
             )*
@@ -80,6 +81,7 @@ fn find_row(word: &[u8]) -> Option<Row>
         b"PCCPFFP" "layer" Act::AddLayer;
         b"PFFPCCP" "compose" Act::Compose;
         b"PFFICCF" "clip" Act::Clip;
+        b"PIPIIFP" "copy" Act::CopyLayer, Profile::Wide;
     }
     None
 }

@@ -1,4 +1,4 @@
-use crate::{Act, Ink, decode, name};
+use crate::{Act, Ink, Profile, decode, name};
 use fuun_base::{Base, Command};
 use std::test::Fail;
 
@@ -14,7 +14,7 @@ fn command_of(letters: &[u8]) -> Option<Command> {
 }
 
 #[test]
-fn the_twenty_commands_and_three_others(rt: HostRuntime) -> Result<(), Fail> {
+fn the_twenty_one_commands_and_three_others(rt: HostRuntime) -> Result<(), Fail> {
     let table: [(&[u8], &str, Option<Act>); 23] = [
         (b"PIPIIIC", "black", Some(Act::Add(Ink::Black))),
         (b"PIPIIIP", "red", Some(Act::Add(Ink::Red))),
@@ -42,8 +42,15 @@ fn the_twenty_commands_and_three_others(rt: HostRuntime) -> Result<(), Fail> {
     ];
     for (letters, wanted, act) in table.iter() {
         let command = command_of(letters).ok_or("more than seven letters, or no base")?;
-        assert_eq!(rt; name(&command), *wanted);
-        assert_eq!(rt; decode(&command), *act);
+        for profile in [Profile::Plain, Profile::Wide] {
+            assert_eq!(rt; name(&command, profile), *wanted);
+            assert_eq!(rt; decode(&command, profile), *act);
+        }
     }
+    let copy = command_of(b"PIPIIFP").ok_or("more than seven letters, or no base")?;
+    assert_eq!(rt; name(&copy, Profile::Plain), "other");
+    assert_eq!(rt; decode(&copy, Profile::Plain), None);
+    assert_eq!(rt; name(&copy, Profile::Wide), "copy");
+    assert_eq!(rt; decode(&copy, Profile::Wide), Some(Act::CopyLayer));
     Ok(())
 }
