@@ -10,7 +10,7 @@ use disk::DiskFolder;
 use fuun_base::Steps;
 use fuun_top::{Status, fuun, put_status};
 use std::env;
-use std::io::{BufWriter, ErrorKind};
+use std::io::{BufWriter, ErrorKind, Write};
 use std::marker::Brand;
 use std::process::ExitCode;
 use std::sync::ledger::{Blank, Ledger};
@@ -42,9 +42,26 @@ fn run_counted<L: Ledger>(rt: &HostRuntime, words: &[String], blank: Blank) -> S
     };
     let mut out = StreamSink::new(buffer);
     let status = fuun(rt.alloc(), words, &mut folder, &mut out, &mut steps);
+    let ended = match status {
+        Status::WriteFault => Status::WriteFault,
+        _ => flushed(status, &mut out),
+    };
+    close(ended, out);
+    ended
+}
+
+/// The status, where what was kept back could be written.
+fn flushed<W: Write + Drop>(status: Status, out: &mut StreamSink<W>) -> Status {
     match out.flush() {
         Ok(()) => status,
         Err(_) => Status::WriteFault,
+    }
+}
+
+/// Gives up the output. After a write fault nothing is written again: the buffer's bytes go unwritten.
+fn close<W: Write + Drop>(ended: Status, out: StreamSink<BufWriter<W>>) {
+    if ended == Status::WriteFault {
+        let (_writer, _unwritten) = out.into_writer().into_parts();
     }
 }
 

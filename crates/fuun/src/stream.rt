@@ -20,6 +20,11 @@ impl<W: Write + Drop> StreamSink<W> {
     pub fn flush(&mut self) -> io::Result<()> {
         self.writer.flush()
     }
+
+    /// The writer, with what it still keeps back.
+    pub fn into_writer(self) -> W {
+        self.writer
+    }
 }
 
 impl<W: Write + Drop> Sink for StreamSink<W> {
