@@ -1,5 +1,6 @@
 -- Quoting of lists.
-use Rattle.std.proofs.Common.{◌≡◌, ℕ, zero, suc, ◌+◌, ◌*◌, ◌-◌, ◌<◌, ◌≤◌, List, [], ◌∷◌, ◌++◌, length, take, drop, get_or, arith, refl, sym, ap, ◌∙◌, add-one, append_assoc, append-nil, length-append, drop-cons}
+use Rattle.std.proofs.Common.{◌≡◌, ℕ, zero, suc, ◌+◌, ◌*◌, ◌-◌, ◌<◌, ◌≤◌, List, [], ◌∷◌, ◌++◌, length, take, drop, set, replicate, get_or, arith, refl, sym, ap, ◌∙◌, add-one, append_assoc, append-nil, length-append, drop-cons}
+use Rattle.std.proofs.Math.Seq.{set-append_seam}
 use Rattle.std.proofs.lemmas.List.{take_more}
 use Rattle.fuun_base.specs.declared.letters.Base.{Base}
 use Rattle.fuun_base.specs.declared.letters.Base.TheVariants.{I, C, F, P}
@@ -16,13 +17,31 @@ pub quote_more : (d : List Base) (i : ℕ) (b : Base) → i < length d → quote
 quote_more d i b within =
     rw (take_more d i b within) (quote-append (take i d) (get_or d i b ∷ []) ∙ ap (λ q. quote (take i d) ++ q) (append-nil (quote_of (get_or d i b))))
 
--- after the quote of what stands before a place, that of the base there
-pub quoted_more : (old out d : List Base) (i : ℕ) (b : Base) → i < length d → out ≡ old ++ quote (take i d) → out ++ quote_of (get_or d i b) ≡ old ++ quote (take (i + 1) d)
-quoted_more old out d i b within before =
-    rw before (append_assoc old (quote (take i d)) (quote_of (get_or d i b)) ∙ ap (λ q. old ++ q) (sym (quote_more d i b within)))
-
 pub quote_rest : (d : List Base) (i : ℕ) (b : Base) → i < length d → quote (drop i d) ≡ quote_of (get_or d i b) ++ quote (drop (i + 1) d)
 quote_rest d i b within = rw (add-one, drop-cons d i b within) refl
+
+-- the first base of a quote, written where C stands as often as the quote is long
+quote_filled : (front : List Base) (b : Base) (more : ℕ) → set (front ++ replicate (length (quote_of b) + more) C) (length front) (get_or (quote_of b) 0 C) ≡ (front ++ quote_of b) ++ replicate more C
+quote_filled front I more =
+    let long : length (quote_of I) + more ≡ suc more = omega arith in
+    rw long (set-append_seam front C (replicate more C) C ∙ sym (append_assoc front (C ∷ []) (replicate more C)))
+quote_filled front C more =
+    let long : length (quote_of C) + more ≡ suc more = omega arith in
+    rw long (set-append_seam front C (replicate more C) F ∙ sym (append_assoc front (F ∷ []) (replicate more C)))
+quote_filled front F more =
+    let long : length (quote_of F) + more ≡ suc more = omega arith in
+    rw long (set-append_seam front C (replicate more C) P ∙ sym (append_assoc front (P ∷ []) (replicate more C)))
+quote_filled front P more =
+    let long : length (quote_of P) + more ≡ suc (suc more) = omega arith in
+    rw long (set-append_seam front C (C ∷ replicate more C) I ∙ sym (append_assoc front (I ∷ C ∷ []) (replicate more C)))
+
+-- the quote of one base more
+pub filled_more : (d slots : List Base) (i at : ℕ) (b : Base) → i < length d → at ≡ length (quote (take i d)) → slots ≡ quote (take i d) ++ replicate (length (quote (drop i d))) C → set slots at (get_or (quote_of (get_or d i b)) 0 C) ≡ quote (take (i + 1) d) ++ replicate (length (quote (drop (i + 1) d))) C
+filled_more d slots i at b within place before =
+    let one = get_or d i b in
+    let front : List Base = quote (take i d) in
+    let long : length (quote (drop i d)) ≡ length (quote_of one) + length (quote (drop (i + 1) d)) = ap length (quote_rest d i b within) ∙ length-append (quote_of one) (quote (drop (i + 1) d)) in
+    rw (before, place, long) (rw (quote_more d i b within) (quote_filled front one (length (quote (drop (i + 1) d)))))
 
 -- only P gives two bases
 length-quote_of : (b : Base) → length (quote_of b) ≡ 1 + (tally_of_one b).p
@@ -34,16 +53,6 @@ length-quote_of P = refl
 pub length-quote : (d : List Base) → length (quote d) ≡ length d + (tally_of d).p
 length-quote [] = refl
 length-quote (b ∷ d) = omega (arith, length-append (quote_of b) (quote d), length-quote_of b, length-quote d)
-
-pub length-quote_of_le : (b : Base) → length (quote_of b) ≤ 2
-length-quote_of_le I = omega arith
-length-quote_of_le C = omega arith
-length-quote_of_le F = omega arith
-length-quote_of_le P = omega arith
-
-pub length-quote_le : (d : List Base) → length (quote d) ≤ 2 * length d
-length-quote_le [] = omega arith
-length-quote_le (b ∷ d) = omega (arith, length-append (quote_of b) (quote d), length-quote_of_le b, length-quote_le d)
 
 tally_of-quote_of : (b : Base) → tally_of (quote_of b) ≡ tally_quoted (tally_of_one b)
 tally_of-quote_of I = refl

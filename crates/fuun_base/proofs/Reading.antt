@@ -3,7 +3,7 @@ use Rattle.std.proofs.Common.{◌≡◌, ℕ, ◌+◌, ◌-◌, ◌<◌, ◌≤�
 use Rattle.std.specs.Prelude.{is_some}
 use Rattle.std.specs.List.{list_all, position_or_len, cons_option}
 use Rattle.std.proofs.Math.Seq.{set-append_seam, take-add}
-use Rattle.std.proofs.lemmas.List.{take_more, get_or-take, get_or-drop, length-drop, length-take-le, take-take}
+use Rattle.std.proofs.lemmas.List.{take_more, get_or-take, get_or-drop, take-take}
 use Rattle.std.proofs.lemmas.List.Sums.{position_or_len_is, AllPass-from_list_all}
 use Rattle.std.proofs.lemmas.List.Elements.{filter_map-append}
 use Rattle.std.proofs.lemmas.Bool.{lt-ltb, le-ltb, cases_lt}
@@ -26,9 +26,6 @@ no_other bytes place all clean =
     position_or_len_is is_other bytes (length bytes) 0 (omega arith) (λ k h. clean k (omega arith)) (λ h. absurd (omega arith)) in
     let past : length bytes ≤ position_or_len is_other bytes = omega arith in
     rw (le-ltb (position_or_len is_other bytes) (length bytes) past) refl
-
-pub length_block : (bytes : List ℕ) (done end : ℕ) → end ≤ length bytes → length (slice_range bytes done end) ≡ end - done
-length_block bytes done end within = length-take-le (end - done) (drop done bytes) (omega (arith, length-drop done bytes))
 
 -- a byte of a block
 at_block : (bytes : List ℕ) (done end k : ℕ) → done + k < end → get_or (slice_range bytes done end) k 0 ≡ get_or bytes (done + k) 0

@@ -1,6 +1,7 @@
 pub mod Letter
 pub mod Quote
 pub mod QuoteLaws
+pub mod Digits
 pub mod Occurrence
 pub mod OccurrenceLaws
 pub mod Tally

@@ -16,6 +16,10 @@ NumberDigit = (n : ℕ) → 0 < n → asnat n ≡ digit_base (n % 2 == 0) ∷ as
 abbrev pub NumberLength : Type 0
 NumberLength = (n : ℕ) → length (asnat n) ≡ bits n + 1
 
+-- a greater number has no fewer binary digits
+abbrev pub BitsRise : Type 0
+BitsRise = (m n : ℕ) → m ≤ n → bits m ≤ bits n
+
 -- numbers and their bases
 abbrev pub NumbersWorked : Type 0
 NumbersWorked =

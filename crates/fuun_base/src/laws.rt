@@ -1,6 +1,6 @@
 //! What holds of the definitions. Each call does nothing: its clause is the law.
-ghost use Rattle.fuun_base.specs.OccurrenceLaws.{FirstIsOne, FirstOrAbsent};
-ghost use Rattle.fuun_base.specs.QuoteLaws.{NumberZero, NumberDigit, NumberLength, NumbersWorked, ProtectOfNil, ProtectOfJoined, ProtectTwice, ProtectFour, ProtectWorked};
+ghost use Rattle.fuun_base.specs.OccurrenceLaws.{FirstIsOne, FirstIsNotAbsent, FirstOrAbsent};
+ghost use Rattle.fuun_base.specs.QuoteLaws.{NumberZero, NumberDigit, NumberLength, NumbersWorked, BitsRise, ProtectOfNil, ProtectOfJoined, ProtectTwice, ProtectFour, ProtectWorked};
 ghost use Rattle.fuun_base.specs.TallyLaws.{TallyOfJoined, TallyOfAll};
 
 /// Zero, as bases, is P alone.
@@ -16,6 +16,11 @@ pub fn number_digit()
 /// A number takes its binary digits and one base more.
 pub fn number_length()
     ensures { NumberLength }
+{}
+
+/// A greater number has no fewer binary digits.
+pub fn bits_rise()
+    ensures { BitsRise }
 {}
 
 /// Some numbers and their bases.
@@ -64,6 +69,11 @@ pub fn first_is_one()
 {}
 
 /// Where there is a first place, the list is not absent.
+pub fn first_is_not_absent()
+    ensures { FirstIsNotAbsent }
+{}
+
+/// Any list has a first place in another at or after any place, or is absent from there on.
 pub fn first_or_absent()
     ensures { FirstOrAbsent }
 {}

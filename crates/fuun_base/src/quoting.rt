@@ -1,8 +1,7 @@
-ghost use Rattle.std.specs.Prelude.{◌≡◌, ◌+◌, ◌%◌, ◌≤◌, ◌==◌, ◌++◌, length, OnOk, OnErr, vec_len};
-ghost use Rattle.std.specs.Vec.{vec_capacity};
+ghost use Rattle.std.specs.Prelude.{◌≡◌, ◌%◌, ◌≤◌, ◌==◌, ◌++◌, length, replicate, slice_index_or, OnOk, OnErr};
 ghost use Rattle.fuun_base.specs.Quote.{quote_of, quote, digit_base, asnat};
 
-use crate::{Base, NoMemory};
+use crate::{Base, NoMemory, Tally};
 
 /// The most bases that a 64-bit number takes: its binary digits and the P after them.
 const LONGEST_NUMBER: usize = 65;
@@ -12,10 +11,11 @@ pub fn quote_into(source: &[Base], out: &mut Vec<Base>) -> Result<(), NoMemory>
     ensures added { OnOk result (out.new.items ≡ out.old.items ++ quote source.now) }
     ensures unchanged { OnErr result (out.new.items ≡ out.old.items) }
 {
-    out.reserve(quote_len(source))?;
-    for base in source {
-        push_quote(*base, out);
-    }
+    let start = out.len();
+    let len = quote_len(source);
+    out.reserve(len)?;
+    out.resize(start + len, Base::C)?;
+    fill_quote(source, &mut out.as_mut_slice()[start..]);
     Ok(())
 }
 
@@ -43,11 +43,30 @@ fn lowest_digit(n: u64) -> Base
 fn quote_len(source: &[Base]) -> usize
     ensures { result ≡ length (quote source.now) }
 {
-    let mut len = 0;
+    source.len() + Tally::of(source).p as usize
+}
+
+// Writes a quote over as many C as it has bases: the second base of a quoted P is there already.
+fn fill_quote(source: &[Base], slots: &mut [Base])
+    requires { slots.old ≡ replicate (length (quote source.now)) Base.C }
+    ensures { slots.new ≡ quote source.now }
+{
+    let mut at = 0;
     for base in source {
-        len += base_len(*base);
+        slots[at] = first_of_quote(*base);
+        at += base_len(*base);
     }
-    len
+}
+
+fn first_of_quote(base: Base) -> Base
+    ensures { result ≡ slice_index_or (quote_of base) 0 Base.C }
+{
+    match base {
+        Base::I => Base::C,
+        Base::C => Base::F,
+        Base::F => Base::P,
+        Base::P => Base::I,
+    }
 }
 
 fn base_len(base: Base) -> usize
@@ -55,21 +74,4 @@ fn base_len(base: Base) -> usize
     ensures most { result ≤ 2 }
 {
     if base == Base::P { 2 } else { 1 }
-}
-
-fn push_quote(base: Base, out: &mut Vec<Base>)
-    requires { vec_len out.old + length (quote_of base) ≤ vec_capacity out.old }
-    ensures items { out.new.items ≡ out.old.items ++ quote_of base }
-    ensures len { vec_len out.new ≡ vec_len out.old + length (quote_of base) }
-    ensures capacity { vec_capacity out.new ≡ vec_capacity out.old }
-{
-    match base {
-        Base::I => out.push_reserved(Base::C),
-        Base::C => out.push_reserved(Base::F),
-        Base::F => out.push_reserved(Base::P),
-        Base::P => {
-            out.push_reserved(Base::I);
-            out.push_reserved(Base::C);
-        }
-    }
 }

@@ -1,9 +1,12 @@
 ghost use Rattle.std.specs.Prelude.{◌≡◌, ◌+◌, ◌<◌, ◌≤◌, ◌^◌, List, length, MatchOption};
 ghost use Rattle.fuun_base.specs.Quote.{protect};
-ghost use Rattle.fuun_base.specs.Tally.{tally_of, tally_of_one, tally_sum, tally_total, tally_quoted};
+ghost use Rattle.fuun_base.specs.Tally.{tally_of, tally_sum, tally_total, tally_quoted};
 ghost use Rattle.fuun_base.specs.declared.letters.Base.{Base};
 
 use crate::Base;
+
+/// How many bases are counted at once: few enough for counters of a byte.
+const PART: usize = 128;
 
 /// How many of each base a list has.
 #[derive(Clone, Copy, Debug, PartialEq, Eq)]
@@ -15,9 +18,8 @@ pub struct Tally {
 }
 
 impl Tally {
-    /// The tally of these bases, at most 2^41 of them.
+    /// The tally of these bases.
     pub fn of(bases: &[Base]) -> Tally
-        requires { length bases.now ≤ 2 ^ 41 }
         ensures { result ≡ tally_of bases.now }
     {
         let mut tally = Tally {
@@ -26,8 +28,11 @@ impl Tally {
             f: 0,
             p: 0,
         };
-        for base in bases {
-            tally = tally.plus(Tally::of_one(*base));
+        let mut done = 0;
+        while done < bases.len() {
+            let end = bases.len().min(done + PART);
+            tally = tally.plus(Tally::of_few(&bases[done..end]));
+            done = end;
         }
         tally
     }
@@ -86,14 +91,24 @@ impl Tally {
         }
     }
 
-    fn of_one(base: Base) -> Tally
-        ensures { result ≡ tally_of_one base }
+    fn of_few(bases: &[Base]) -> Tally
+        requires { length bases.now ≤ PART }
+        ensures { result ≡ tally_of bases.now }
     {
+        let mut c = 0u8;
+        let mut f = 0u8;
+        let mut p = 0u8;
+        for base in bases {
+            c += u8::from(*base == Base::C);
+            f += u8::from(*base == Base::F);
+            p += u8::from(*base == Base::P);
+        }
+        let (c, f, p) = (u64::from(c), u64::from(f), u64::from(p));
         Tally {
-            i: u64::from(base == Base::I),
-            c: u64::from(base == Base::C),
-            f: u64::from(base == Base::F),
-            p: u64::from(base == Base::P),
+            i: bases.len() as u64 - c - f - p,
+            c,
+            f,
+            p,
         }
     }
 }

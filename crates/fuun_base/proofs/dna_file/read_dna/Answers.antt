@@ -1,7 +1,8 @@
 use Rattle.std.proofs.Common.{◌≡◌, ℕ, ◌+◌, ◌-◌, ◌<◌, ◌≤◌, List, ◌++◌, Some, length, take, slice_range, arith, ap, ◌∙◌}
 use Rattle.std.proofs.lemmas.List.{take_all}
 use Rattle.fuun_base.specs.DnaFile.{bases, first_other}
-use Rattle.fuun_base.proofs.Reading.{length_block, bases_on, clean_more, stops_at, first_other_at, no_other, length-bases_le}
+use Rattle.fuun_base.proofs.Ranges.{length-range}
+use Rattle.fuun_base.proofs.Reading.{bases_on, clean_more, stops_at, first_other_at, no_other, length-bases_le}
 use Rattle.fuun_base.proofs.dna_file.read_dna.Goals as goal
 
 pub returns-then-count-block-clause-other : goal.returns-then-count-block-clause-other
@@ -11,7 +12,7 @@ returns-then-count-block-clause-other c place e =
     let count = c.in_ok-count.count in
     let end = c.min.result in
     let front = c.in_ok-count.ensures.front in
-    let long : length (slice_range bytes done end) ≡ end - done = length_block bytes done end (omega arith) in
+    let long : length (slice_range bytes done end) ≡ end - done = length-range bytes done end (omega arith) in
     let short : done + count < end = omega (arith, c.if-count-block.true) in
     let here : first_other bytes ≡ Some (done + count) =
     first_other_at bytes (done + count) (omega arith)
@@ -27,7 +28,7 @@ loop-done-preserved c =
     let count = c.in_ok-count.count in
     let end = c.min.result in
     let front = c.in_ok-count.ensures.front in
-    let long : length (slice_range bytes done end) ≡ end - done = length_block bytes done end (omega arith) in
+    let long : length (slice_range bytes done end) ≡ end - done = length-range bytes done end (omega arith) in
     let within : done + count ≤ end = omega (arith, front.within) in
     record {
       within = omega arith;

@@ -1,4 +1,4 @@
 use Rattle.fuun_base.proofs.tests.steps_are_counted.Given as goal
 
-abbrev pub ghosts-ticked_twice : goal.ghosts-ticked_twice
-ghosts-ticked_twice a = record { name = a.blank.name; parts = a.blank.parts }
+abbrev pub ghosts-count_two : goal.ghosts-count_two
+ghosts-count_two a = record { name = a.blank.name; parts = a.blank.parts }
