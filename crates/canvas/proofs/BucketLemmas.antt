@@ -9,7 +9,7 @@ use Rattle.rna_code.specs.declared.acts.Ink.{Ink}
 use Rattle.rna_code.specs.declared.acts.Ink.TheVariants.{Black, Red, Green, Yellow, Blue, Magenta, Cyan, White, Transparent, Opaque}
 use Rattle.canvas.specs.declared.average.Average.{Average}
 use Rattle.canvas.specs.Tally.{IsTotal, IsTally}
-use Rattle.canvas.specs.Buckets.{Colour, colour_of, alpha_of, colours, alphas, average_or, pixel_of}
+use Rattle.canvas.specs.Buckets.{Colour, colour_of, alpha_of, colours, alphas, average_or, current_pixel}
 use Rattle.canvas.specs.Pixels.{Rgba}
 
 -- an ink that is a colour is no alpha
@@ -140,8 +140,8 @@ tally-empty inks red green blue alpha none reds greens blues opacities =
 -- the current pixel, from the averages
 pub pixel_from : (inks now : List Ink) (red green blue alpha : Average) (rc gc bc ac r g b : ℕ) (p : Rgba) → inks ≡ now → IsTally inks red green blue alpha
     → rc ≡ (if red.count == 0 then 0 else red.total / red.count) → gc ≡ (if green.count == 0 then 0 else green.total / green.count) → bc ≡ (if blue.count == 0 then 0 else blue.total / blue.count) → ac ≡ (if alpha.count == 0 then 255 else alpha.total / alpha.count)
-    → r ≡ rc * ac / 255 → g ≡ gc * ac / 255 → b ≡ bc * ac / 255 → p ≡ record { red = r; green = g; blue = b; alpha = ac } → p ≡ pixel_of now
-unfolding pixel_of
+    → r ≡ rc * ac / 255 → g ≡ gc * ac / 255 → b ≡ bc * ac / 255 → p ≡ record { red = r; green = g; blue = b; alpha = ac } → p ≡ current_pixel now
+unfolding current_pixel
 pixel_from inks now red green blue alpha rc gc bc ac r g b p same tally reds greens blues opacities r_is g_is b_is p_is =
     let red_mean = average_from 0 (map (λ c. c.red) (colours inks)) red.total red.count rc tally.red_total.0 tally.red_total.1 reds in
     let green_mean = average_from 0 (map (λ c. c.green) (colours inks)) green.total green.count gc tally.green_total.0 tally.green_total.1 greens in

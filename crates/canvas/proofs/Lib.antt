@@ -1,2 +1,4 @@
 pub mod BucketLemmas
+pub mod Decided
 pub mod PixelLemmas
+pub mod SpotLemmas

@@ -1,11 +1,34 @@
 -- What stands at a spot after a bitmap was changed, and when two bitmaps are equal.
-use Rattle.std.proofs.Common.{◌≡◌, ℕ, ◌+◌, ◌*◌, ◌/◌, ◌%◌, ◌-◌, ◌<◌, ◌≤◌, ◌⊎◌, inl, inr, List, ◌++◌, length, take, drop, get_or, replicate, arith, sym, subst, ap, ◌∙◌, length-set, get_or-set_other, get_or-set_same, length-append}
+use Rattle.std.proofs.Common.{◌≡◌, ◌≢◌, ℕ, ◌+◌, ◌*◌, ◌/◌, ◌%◌, ◌-◌, ◌<◌, ◌≤◌, ◌⊎◌, inl, inr, List, ◌++◌, length, take, drop, get_or, replicate, arith, sym, subst, ap, ◌∙◌, length-set, get_or-set_other, get_or-set_same, length-append}
 use Rattle.std.proofs.lemmas.Grind.{common_steps, rows}
 use Rattle.std.proofs.lemmas.Nat.{same_from_place, mul-add-lt}
 use Rattle.std.proofs.lemmas.List.{ext_get_or, get_or-replicate, get_or-take, get_or-drop, get_or_append_left, get_or-append_right, length-drop, length-replicate, length-take-le}
 use Rattle.std.proofs.Math.Nat.{mul-le-mul_right}
-use Rattle.std.proofs.lemmas.Bool.{cases_lt, cases_order}
+use Rattle.std.proofs.lemmas.Bool.{cases_eq, cases_lt, cases_order}
 use Rattle.canvas.specs.Pixels.{Rgba, IsSquare, blank, pixel_at, place_of, row_of, transparent, with_pixel, with_span}
+
+-- a pixel by its channels
+same_pixel : (p q : Rgba) → p.red ≡ q.red → p.green ≡ q.green → p.blue ≡ q.blue → p.alpha ≡ q.alpha → p ≡ q
+same_pixel p q r g b a =
+    let made : ℕ → ℕ → ℕ → ℕ → Rgba = λ r g b a. record { red = r; green = g; blue = b; alpha = a } in
+    ap (λ k. made k p.green p.blue p.alpha) r ∙ (ap (λ k. made q.red k p.blue p.alpha) g ∙ (ap (λ k. made q.red q.green k p.alpha) b ∙ ap (λ k. made q.red q.green q.blue k) a))
+
+-- two pixels are equal or not
+pub cases_pixel : (p q : Rgba) → (p ≡ q) ⊎ (p ≢ q)
+cases_pixel p q =
+    elim (cases_eq p.red q.red) [
+      | inr n ↦ inr (λ e. n (ap (λ c. c.red) e))
+      | inl r ↦ elim (cases_eq p.green q.green) [
+        | inr n ↦ inr (λ e. n (ap (λ c. c.green) e))
+        | inl g ↦ elim (cases_eq p.blue q.blue) [
+          | inr n ↦ inr (λ e. n (ap (λ c. c.blue) e))
+          | inl b ↦ elim (cases_eq p.alpha q.alpha) [
+            | inr n ↦ inr (λ e. n (ap (λ c. c.alpha) e))
+            | inl a ↦ inl (same_pixel p q r g b a)
+          ]
+        ]
+      ]
+    ]
 
 -- a spot's place stands in the list
 pub place_inside : (side x y : ℕ) → x < side → y < side → place_of side x y < side * side

@@ -47,8 +47,8 @@ average_or default [] = default
 average_or default (x ∷ xs) = sum (x ∷ xs) / length (x ∷ xs)
 
 -- the current pixel of a bucket
-unfoldable pub pixel_of : List Ink → Rgba
-pixel_of inks =
+unfoldable pub current_pixel : List Ink → Rgba
+current_pixel inks =
     let all = colours inks in
     let alpha = average_or 255 (alphas inks) in
     record {

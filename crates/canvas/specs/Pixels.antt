@@ -1,5 +1,10 @@
 -- Pixels and the list of a bitmap's pixels, in the words of the contest's chapter on images.
-use Rattle.std.specs.Prelude.{◌≡◌, ℕ, ◌+◌, ◌-◌, ◌*◌, ◌≤◌, List, ◌++◌, length, slice_index_or, slice_set, replicate, take, drop}
+use Rattle.std.specs.Prelude.{◌≡◌, ℕ, ◌+◌, ◌-◌, ◌*◌, ◌<◌, ◌≤◌, List, ◌++◌, length, slice_index_or, slice_set, replicate, take, drop}
+use Rattle.canvas.specs.declared.pixel.Spot.{Spot}
+
+-- a spot of a bitmap of this side
+abbrev pub IsInside : ℕ → Spot → Type 0
+IsInside side s = (s.x < side) × (s.y < side)
 
 -- a pixel's red, green and blue, and its alpha
 pub record Rgba : Type 0 where

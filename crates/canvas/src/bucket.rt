@@ -1,7 +1,7 @@
 //! The bucket of colours and alphas.
 
 ghost use Rattle.std.specs.Prelude.{◌≡◌, ◌+◌, ◌*◌, ◌/◌, ◌^◌, ◌<◌, ◌≤◌, [], ◌∷◌, ◌++◌, length, option_map};
-ghost use Rattle.canvas.specs.Buckets.{alpha_of, colour_of, pixel_of, rgb};
+ghost use Rattle.canvas.specs.Buckets.{alpha_of, colour_of, current_pixel, rgb};
 
 use crate::average::Average;
 use crate::history::History;
@@ -76,7 +76,7 @@ impl Bucket {
     /// alpha, or 255 where there is none. The averages are rounded down, and so is each colour times
     /// the alpha, divided by 255.
     pub fn pixel(&self) -> Pixel
-        ensures { result ≡ pixel_of self.now }
+        ensures { result ≡ current_pixel self.now }
     {
         let alpha = self.alpha.or(255);
         let red = scaled(self.red.or(0), alpha);

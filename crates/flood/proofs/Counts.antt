@@ -1,37 +1,13 @@
 -- Equal pixels, and how many there are.
-use Rattle.std.proofs.Common.{◌≡◌, ◌≢◌, ℕ, zero, suc, ◌+◌, ◌-◌, ◌<◌, ◌≤◌, ◌⊎◌, inl, inr, Bool, true, false, not, cond, List, [], ◌∷◌, ◌++◌, length, take, drop, replicate, get_or, refl, sym, ap, ◌∙◌, subst, arith}
-use Rattle.std.proofs.lemmas.Bool.{cases_eq}
+use Rattle.std.proofs.Common.{◌≡◌, ◌≢◌, ℕ, zero, suc, ◌+◌, ◌-◌, ◌<◌, ◌≤◌, inl, inr, Bool, true, false, not, cond, List, [], ◌∷◌, ◌++◌, length, take, drop, replicate, get_or, refl, sym, ap, ◌∙◌, subst, arith}
 use Rattle.std.proofs.lemmas.Bool.Decides.{nat_tests}
 use Rattle.std.proofs.lemmas.List.{take-append-drop, drop-drop}
 use Rattle.std.proofs.Math.Seq.{drop-cons}
 use Rattle.canvas.specs.Pixels.{Rgba, IsSquare, pixel_at, place_of, transparent, with_span}
-use Rattle.canvas.proofs.PixelLemmas.{place_inside}
+use Rattle.canvas.proofs.PixelLemmas.{cases_pixel, place_inside}
 use Rattle.flood.specs.declared.span.Span.{Span}
 use Rattle.flood.specs.Spans.{IsSpanOf}
 use Rattle.flood.specs.Filling.{is_equal, count_of}
-
--- a pixel by its channels
-same_pixel : (p q : Rgba) → p.red ≡ q.red → p.green ≡ q.green → p.blue ≡ q.blue → p.alpha ≡ q.alpha → p ≡ q
-same_pixel p q r g b a =
-    let made : ℕ → ℕ → ℕ → ℕ → Rgba = λ r g b a. record { red = r; green = g; blue = b; alpha = a } in
-    ap (λ k. made k p.green p.blue p.alpha) r ∙ (ap (λ k. made q.red k p.blue p.alpha) g ∙ (ap (λ k. made q.red q.green k p.alpha) b ∙ ap (λ k. made q.red q.green q.blue k) a))
-
--- two pixels are equal or not
-pub cases_pixel : (p q : Rgba) → (p ≡ q) ⊎ (p ≢ q)
-cases_pixel p q =
-    elim (cases_eq p.red q.red) [
-      | inr n ↦ inr (λ e. n (ap (λ c. c.red) e))
-      | inl r ↦ elim (cases_eq p.green q.green) [
-        | inr n ↦ inr (λ e. n (ap (λ c. c.green) e))
-        | inl g ↦ elim (cases_eq p.blue q.blue) [
-          | inr n ↦ inr (λ e. n (ap (λ c. c.blue) e))
-          | inl b ↦ elim (cases_eq p.alpha q.alpha) [
-            | inr n ↦ inr (λ e. n (ap (λ c. c.alpha) e))
-            | inl a ↦ inl (same_pixel p q r g b a)
-          ]
-        ]
-      ]
-    ]
 
 equal_yes : (p q : Rgba) → p ≡ q → is_equal p q ≡ true
 equal_yes p q e = grind (arith, nat_tests)

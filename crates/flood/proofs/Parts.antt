@@ -2,19 +2,14 @@
 use Rattle.std.proofs.Common.{◌≡◌, ◌≢◌, ℕ, zero, suc, ◌+◌, ◌-◌, ◌<◌, ◌≤◌, ◌⊎◌, inl, inr, List, [], ◌∷◌, refl, sym, subst, ap, ◌∙◌, arith}
 use Rattle.std.proofs.lemmas.Bool.{cases_eq, cases_lt}
 use Rattle.canvas.specs.declared.pixel.Spot.{Spot}
-use Rattle.canvas.specs.Pixels.{Rgba, IsSquare, pixel_at, with_span}
+use Rattle.canvas.specs.Pixels.{Rgba, IsInside, IsSquare, pixel_at, with_span}
 use Rattle.canvas.proofs.PixelLemmas.{pixel_at-with_span, pixel_at-with_span_other}
+use Rattle.canvas.proofs.SpotLemmas.{same_spot}
 use Rattle.flood.specs.declared.span.Span.{Span}
-use Rattle.flood.specs.Region.{IsInside, pixel_of, DifferByOne, AreNeighbours, IsInRegion, IsFill}
+use Rattle.flood.specs.Region.{pixel_of, DifferByOne, AreNeighbours, IsInRegion, IsFill}
 use Rattle.flood.specs.Spans.{IsSpanOf}
-use Rattle.flood.specs.Filling.{Covers, IsListed, IsRun, IsSet, IsPartOfFill, AreAdjacent, Continues, IsClearNorth, IsClearSouth}
+use Rattle.flood.specs.Filling.{Covers, IsListed, IsRun, IsSet, IsPartOfFill, AreAdjacent, Continues, IsClearIn}
 use Rattle.flood.proofs.Regions.{in_region, region_alike, region_here, region_more}
-
--- a spot by its coordinates
-same_spot : (s t : Spot) → s.x ≡ t.x → s.y ≡ t.y → s ≡ t
-same_spot s t x y =
-    let made : ℕ → ℕ → Spot = λ u v. record { x = u; y = v } in
-    ap (λ k. made k s.y) x ∙ ap (λ k. made t.x k) y
 
 -- a span has a spot or not
 cases_covers : (span : Span) (s : Spot) → Covers span s ⊎ ¬ Covers span s
@@ -175,17 +170,17 @@ part_swapped side was spot to now a b spans part =
     }
 
 -- a span whose neighbours to the north and south are done is listed no more
-part_done : (side : ℕ) (was : List Rgba) (spot : Spot) (from to : Rgba) (now : List Rgba) (span : Span) (spans : List Span) → pixel_of side was spot ≡ from → IsClearNorth side now from span → IsClearSouth side now from span
+part_done : (side : ℕ) (was : List Rgba) (spot : Spot) (from to : Rgba) (now : List Rgba) (span : Span) (spans : List Span) (above below : ℕ) → (0 < span.y → above + 1 ≡ span.y) → below ≡ span.y + 1 → pixel_of side was spot ≡ from → IsClearIn side now from span above → IsClearIn side now from span below
     → IsPartOfFill side was spot to now (span ∷ spans) → IsPartOfFill side was spot to now spans
-part_done side was spot from to now span spans is_from north south part = record {
+part_done side was spot from to now span spans above below is_above is_below is_from north south part = record {
   kept = part.kept;
   rows = part.rows;
   columns =
       λ s t done inside x one e. elim (part.columns s t done inside x one e) [
         | inl covers ↦
             elim one [
-              | inl below ↦ absurd (south s t covers inside x below (e ∙ is_from))
-              | inr above ↦ absurd (north s t covers inside x above (e ∙ is_from))
+              | inl next ↦ absurd (south s t covers inside x (omega (arith, covers.0, next, is_below)) (e ∙ is_from))
+              | inr next ↦ absurd (north s t covers inside x (let row : t.y + 1 ≡ span.y = omega (arith, covers.0, next) in omega (arith, row, is_above (omega (arith, row)))) (e ∙ is_from))
             ]
         | inr rest ↦ rest
       ];
@@ -258,14 +253,14 @@ Continues-run side from to now now' spans spans' held part run seed differ squar
 }
 
 -- both rows of a span are done
-pub Continues-done : (side : ℕ) (from to : Rgba) (a b c : List Rgba) (u v w : List Span) (span : Span) → Continues side from to a (span ∷ u) b (span ∷ v) → Continues side from to b (span ∷ v) c (span ∷ w)
-    → IsSpanOf side span → IsClearNorth side b from span → IsClearSouth side c from span → Continues side from to a (span ∷ u) c w
-Continues-done side from to a b c u v w span first second is_span north south =
+pub Continues-done : (side : ℕ) (from to : Rgba) (a b c : List Rgba) (u v w : List Span) (span : Span) (above below : ℕ) → Continues side from to a (span ∷ u) b (span ∷ v) → Continues side from to b (span ∷ v) c (span ∷ w)
+    → (0 < span.y → above + 1 ≡ span.y) → below ≡ span.y + 1 → IsClearIn side b from span above → IsClearIn side c from span below → Continues side from to a (span ∷ u) c w
+Continues-done side from to a b c u v w span above below first second is_above is_below north south =
     let both = Continues-trans side from to a b c (span ∷ u) (span ∷ v) (span ∷ w) first second in
-    let still : IsClearNorth side c from span = λ s t covers inside x above e. north s t covers inside x above (second.fewer t inside e) in
+    let still : IsClearIn side c from span above = λ s t covers inside x row e. north s t covers inside x row (second.fewer t inside e) in
     record {
       fewer = both.fewer;
-      part = λ was spot is_from part. part_done side was spot from to c span w is_from still south (both.part was spot is_from part);
+      part = λ was spot is_from part. part_done side was spot from to c span w above below is_above is_below is_from still south (both.part was spot is_from part);
     }
 
 -- the first run, and all that follows from it

@@ -3,10 +3,10 @@ use Rattle.std.proofs.Common.{◌≡◌, ℕ, suc, inl, inr, List, [], ◌∷◌
 use Rattle.std.specs.List.{All}
 use Rattle.std.proofs.lemmas.List.Elements.{All-push}
 use Rattle.canvas.specs.declared.pixel.Spot.{Spot}
-use Rattle.canvas.specs.Pixels.{Rgba}
-use Rattle.canvas.proofs.PixelLemmas.{same_bitmaps}
-use Rattle.flood.specs.Region.{IsInside, pixel_of, AreNeighbours, AreSteps, first_of, last_of, IsInRegion, FillsAreEqual}
-use Rattle.flood.proofs.Counts.{cases_pixel}
+use Rattle.canvas.specs.Pixels.{Rgba, IsInside}
+use Rattle.canvas.proofs.PixelLemmas.{cases_pixel, same_bitmaps}
+use Rattle.flood.specs.Region.{pixel_of, AreNeighbours, AreSteps, first_of, last_of, IsInRegion}
+use Rattle.flood.specs.FillLaws.{FillsAreEqual}
 
 -- a walk with one spot more
 first_more : (walk : List Spot) (start t : Spot) → first_of walk ≡ Some start → first_of (walk ++ t ∷ []) ≡ Some start
@@ -76,9 +76,26 @@ in_region side pixels start P here step s region =
     let is = region.is_walk in
     along side pixels (pixel_of side pixels start) P step region.walk start s is.starts is.stops is.steps is.inside is.alike here
 
+-- the first spot of a walk is of the bitmap
+first_inside : (side : ℕ) (walk : List Spot) (start : Spot) → first_of walk ≡ Some start → All (IsInside side) walk → IsInside side start
+first_inside side [] start starts inside = absurd (let no : ⊥ = cc in no)
+first_inside side (s ∷ rest) start starts inside =
+    let same : s ≡ start = cc in
+    subst (IsInside side) same (inside 0 s (omega arith))
+
+-- a region is of the bitmap
+region_inside : (side : ℕ) (pixels : List Rgba) (start s : Spot) → IsInRegion side pixels start s → IsInside side s
+region_inside side pixels start s region =
+    let is = region.is_walk in
+    in_region side pixels start (IsInside side) (first_inside side region.walk start is.starts is.inside) (λ a b here near inside alike. inside) s region
+
 -- a region has equal pixels
 pub region_alike : (side : ℕ) (pixels : List Rgba) (start s : Spot) → IsInRegion side pixels start s → pixel_of side pixels s ≡ pixel_of side pixels start
 region_alike side pixels start s region = in_region side pixels start (λ q. pixel_of side pixels q ≡ pixel_of side pixels start) refl (λ a b here near inside alike. alike) s region
+
+-- a region is of the bitmap, and has equal pixels
+pub region_part : (side : ℕ) (pixels : List Rgba) (start s : Spot) → IsInRegion side pixels start s → IsInside side s × (pixel_of side pixels s ≡ pixel_of side pixels start)
+region_part side pixels start s region = (region_inside side pixels start s region, region_alike side pixels start s region)
 
 -- two fills of one bitmap
 pub one_fill : FillsAreEqual

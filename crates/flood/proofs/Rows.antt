@@ -2,10 +2,10 @@
 use Rattle.std.proofs.Common.{◌≡◌, ◌≢◌, ℕ, ◌+◌, ◌-◌, ◌*◌, ◌<◌, ◌≤◌, inl, inr, List, [], ◌∷◌, refl, sym, subst, ap, ◌∙◌, arith, get_or, length}
 use Rattle.std.proofs.lemmas.Bool.{cases_lt}
 use Rattle.canvas.specs.declared.pixel.Spot.{Spot}
-use Rattle.canvas.specs.Pixels.{Rgba, IsSquare, pixel_at, row_of, transparent, with_span}
+use Rattle.canvas.specs.Pixels.{Rgba, IsInside, IsSquare, pixel_at, row_of, transparent, with_span}
 use Rattle.canvas.proofs.PixelLemmas.{row_of-pixel}
 use Rattle.flood.specs.declared.span.Span.{Span}
-use Rattle.flood.specs.Region.{IsInside, pixel_of}
+use Rattle.flood.specs.Region.{pixel_of}
 use Rattle.flood.specs.Spans.{IsSpanOf}
 use Rattle.flood.specs.Filling.{Covers, IsRun, count_of, work_left}
 use Rattle.flood.proofs.Counts.{count_of-le-length, count_of-with_span}

@@ -1,9 +1,9 @@
 -- A fill that has come some way.
 use Rattle.std.specs.Prelude.{◌≡◌, ◌≢◌, ℕ, ◌+◌, ◌<◌, ◌≤◌, ◌⊎◌, ◌==◌, ◌&&◌, Bool, cond, List, [], ◌∷◌, length}
 use Rattle.canvas.specs.declared.pixel.Spot.{Spot}
-use Rattle.canvas.specs.Pixels.{Rgba}
+use Rattle.canvas.specs.Pixels.{Rgba, IsInside}
 use Rattle.flood.specs.declared.span.Span.{Span}
-use Rattle.flood.specs.Region.{IsInside, pixel_of, DifferByOne, IsInRegion}
+use Rattle.flood.specs.Region.{pixel_of, DifferByOne, IsInRegion}
 use Rattle.flood.specs.Spans.{IsSpanOf}
 
 -- a spot of a span
@@ -61,9 +61,6 @@ pub record Continues (side : ℕ) (from to : Rgba) (now : List Rgba) (spans : Li
   pub fewer : (s : Spot) → IsInside side s → pixel_of side now' s ≡ from → pixel_of side now s ≡ from
   pub part : (was : List Rgba) (spot : Spot) → pixel_of side was spot ≡ from → IsPartOfFill side was spot to now spans → IsPartOfFill side was spot to now' spans'
 
--- no spot to the north of a span, or to its south, holds a pixel
-abbrev pub IsClearNorth : ℕ → List Rgba → Rgba → Span → Type 0
-IsClearNorth side now from span = (s t : Spot) → Covers span s → IsInside side t → s.x ≡ t.x → t.y + 1 ≡ s.y → pixel_of side now t ≢ from
-
-abbrev pub IsClearSouth : ℕ → List Rgba → Rgba → Span → Type 0
-IsClearSouth side now from span = (s t : Spot) → Covers span s → IsInside side t → s.x ≡ t.x → s.y + 1 ≡ t.y → pixel_of side now t ≢ from
+-- no spot of a row, as far as a span goes, holds a pixel
+abbrev pub IsClearIn : ℕ → List Rgba → Rgba → Span → ℕ → Type 0
+IsClearIn side now from span y = (s t : Spot) → Covers span s → IsInside side t → s.x ≡ t.x → t.y ≡ y → pixel_of side now t ≢ from

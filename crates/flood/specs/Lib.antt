@@ -1,3 +1,4 @@
+pub mod FillLaws
 pub mod Filling
 pub mod Region
 pub mod Spans

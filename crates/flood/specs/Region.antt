@@ -1,12 +1,8 @@
 -- Walks, regions and fills, in the words of the contest's chapter on images.
-use Rattle.std.specs.Prelude.{◌≡◌, ℕ, ◌+◌, ◌<◌, ◌⊎◌, List, [], ◌∷◌, Option, Some, None}
+use Rattle.std.specs.Prelude.{◌≡◌, ℕ, ◌+◌, ◌⊎◌, List, [], ◌∷◌, Option, Some, None}
 use Rattle.std.specs.List.{All}
 use Rattle.canvas.specs.declared.pixel.Spot.{Spot}
-use Rattle.canvas.specs.Pixels.{Rgba, IsSquare, pixel_at}
-
--- a spot of a bitmap
-abbrev pub IsInside : ℕ → Spot → Type 0
-IsInside side s = (s.x < side) × (s.y < side)
+use Rattle.canvas.specs.Pixels.{Rgba, IsInside, IsSquare, pixel_at}
 
 -- the pixel at a spot
 abbrev pub pixel_of : ℕ → List Rgba → Spot → Rgba
@@ -56,9 +52,3 @@ pub record IsFill (side : ℕ) (was : List Rgba) (spot : Spot) (pixel : Rgba) (n
   pub others :
       (s : Spot) → IsInside side s → ¬ IsInRegion side was spot s
       → pixel_of side now s ≡ pixel_of side was s
-
--- a bitmap, a spot and a pixel have one fill
-abbrev pub FillsAreEqual : Type 0
-FillsAreEqual =
-    (side : ℕ) (was first second : List Rgba) (spot : Spot) (pixel : Rgba)
-    → IsFill side was spot pixel first → IsFill side was spot pixel second → first ≡ second

@@ -1,14 +1,13 @@
 //! Fills, as the contest's chapter on images has them: a region of equal pixels gets another pixel.
 #![tactic(auto)]
 
-mod law;
+pub mod laws;
 mod row;
 mod scan;
 mod span;
 mod spread;
 mod work;
 
-pub use law::fills_are_equal;
 pub use spread::fill;
 pub use work::Work;
 

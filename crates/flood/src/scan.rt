@@ -2,9 +2,9 @@
 
 ghost use Rattle.std.specs.Prelude.{◌≡◌, ◌≢◌, ℕ, ◌+◌, ◌*◌, ◌<◌, ◌≤◌, ◌∷◌, length};
 ghost use Rattle.canvas.specs.declared.pixel.Spot.{Spot as Place};
-ghost use Rattle.canvas.specs.Pixels.{IsSquare, with_span};
+ghost use Rattle.canvas.specs.Pixels.{IsInside, IsSquare, with_span};
 ghost use Rattle.flood.specs.declared.span.Span.{Span as Spots};
-ghost use Rattle.flood.specs.Region.{IsInside, pixel_of};
+ghost use Rattle.flood.specs.Region.{pixel_of};
 ghost use Rattle.flood.specs.Spans.{IsSpanOf};
 ghost use Rattle.flood.specs.Filling.{AreAdjacent, Continues, Covers, IsRun, work_left};
 

@@ -1,10 +1,10 @@
 //! Fills.
 
-ghost use Rattle.std.specs.Prelude.{◌≡◌, ◌≢◌, ◌*◌, ◌<◌, ◌≤◌, [], ◌∷◌};
+ghost use Rattle.std.specs.Prelude.{◌≡◌, ◌≢◌, ◌+◌, ◌*◌, ◌<◌, ◌≤◌, [], ◌∷◌};
 ghost use Rattle.canvas.specs.Pixels.{IsSquare};
-ghost use Rattle.flood.specs.Region.{IsFill, pixel_of};
+ghost use Rattle.flood.specs.Region.{DifferByOne, IsFill, pixel_of};
 ghost use Rattle.flood.specs.Spans.{IsSpanOf};
-ghost use Rattle.flood.specs.Filling.{Continues, IsClearNorth, IsClearSouth, work_left};
+ghost use Rattle.flood.specs.Filling.{Continues, IsClearIn, work_left};
 
 use crate::scan::{put, scan};
 use crate::span::Span;
@@ -69,66 +69,31 @@ fn spread_from<const SIDE: usize>(
     ensures left { work_left from bitmap.new work.new ≤ work_left from bitmap.old work.old }
     ensures square { IsSquare SIDE bitmap.new }
 {
-    north(bitmap, work, span, from, to);
-    south(bitmap, work, span, from, to);
+    // North of the first row is a number past the last one, and so no row.
+    spread_to(bitmap, work, span, span.y.wrapping_sub(1), from, to);
+    spread_to(bitmap, work, span, span.y + 1, from, to);
 }
 
-fn north<const SIDE: usize>(
+// Goes on from a span to a row beside it, if the bitmap has that row.
+fn spread_to<const SIDE: usize>(
     bitmap: &mut Bitmap<SIDE>,
     work: &mut Work<SIDE>,
     span: Span,
+    y: u32,
     from: Pixel,
     to: Pixel,
 )
     requires span { IsSpanOf SIDE span }
+    requires beside { y < SIDE → DifferByOne span.y y }
     requires differ { from ≢ to }
     requires room { work_left from bitmap.old work.old ≤ SIDE * SIDE }
     requires square { IsSquare SIDE bitmap.old }
     ensures goes_on { Continues SIDE from to bitmap.old (span ∷ work.old) bitmap.new (span ∷ work.new) }
-    ensures clear { IsClearNorth SIDE bitmap.new from span }
+    ensures clear { IsClearIn SIDE bitmap.new from span y }
     ensures left { work_left from bitmap.new work.new ≤ work_left from bitmap.old work.old }
     ensures square { IsSquare SIDE bitmap.new }
 {
-    if span.y > 0 {
-        scan(
-            bitmap,
-            work,
-            Span {
-                y: span.y - 1,
-                ..span
-            },
-            from,
-            to,
-        );
-    }
-}
-
-fn south<const SIDE: usize>(
-    bitmap: &mut Bitmap<SIDE>,
-    work: &mut Work<SIDE>,
-    span: Span,
-    from: Pixel,
-    to: Pixel,
-)
-    requires span { IsSpanOf SIDE span }
-    requires differ { from ≢ to }
-    requires room { work_left from bitmap.old work.old ≤ SIDE * SIDE }
-    requires square { IsSquare SIDE bitmap.old }
-    ensures goes_on { Continues SIDE from to bitmap.old (span ∷ work.old) bitmap.new (span ∷ work.new) }
-    ensures clear { IsClearSouth SIDE bitmap.new from span }
-    ensures left { work_left from bitmap.new work.new ≤ work_left from bitmap.old work.old }
-    ensures square { IsSquare SIDE bitmap.new }
-{
-    if ((span.y + 1) as usize) < SIDE {
-        scan(
-            bitmap,
-            work,
-            Span {
-                y: span.y + 1,
-                ..span
-            },
-            from,
-            to,
-        );
+    if (y as usize) < SIDE {
+        scan(bitmap, work, Span { y, ..span }, from, to);
     }
 }

@@ -1,13 +1,13 @@
 ghost use Rattle.std.specs.Prelude.{◌<◌, ◌≤◌};
 
-use crate::{Work, fill, fills_are_equal};
+use crate::{Work, fill};
 use canvas::{Bitmap, Pixel, Spot};
 use fuun_base::NoMemory;
 use std::alloc::Global;
 use std::test::Fail;
 
 // The pixel of a letter: red, blue or transparent.
-fn pixel_of(letter: u8) -> Pixel {
+fn pixel_by(letter: u8) -> Pixel {
     match letter {
         b'r' => Pixel::of(255, 0, 0, 255),
         b'b' => Pixel::of(0, 0, 255, 255),
@@ -28,7 +28,7 @@ fn drawn<const SIDE: usize>(alloc: Global, letters: &[u8]) -> Result<Bitmap<SIDE
                     x: x as u32,
                     y: y as u32,
                 },
-                pixel_of(*letter),
+                pixel_by(*letter),
             );
         }
     }
@@ -41,7 +41,7 @@ fn shows<const SIDE: usize>(bitmap: &Bitmap<SIDE>, letters: &[u8]) -> bool {
         && pixels
             .iter()
             .zip(letters)
-            .all(|(pixel, letter)| *pixel == pixel_of(*letter))
+            .all(|(pixel, letter)| *pixel == pixel_by(*letter))
 }
 
 // Whether two blue fills of a bitmap from one spot, the one after the other, both leave the other bitmap.
@@ -56,15 +56,14 @@ fn fills<const SIDE: usize>(
 {
     let mut bitmap = drawn::<SIDE>(alloc, before)?;
     let mut work = Work::new(alloc)?;
-    fill(&mut bitmap, &mut work, spot, pixel_of(b'b'));
+    fill(&mut bitmap, &mut work, spot, pixel_by(b'b'));
     let once = shows(&bitmap, after);
-    fill(&mut bitmap, &mut work, spot, pixel_of(b'b'));
+    fill(&mut bitmap, &mut work, spot, pixel_by(b'b'));
     Ok(once && shows(&bitmap, after))
 }
 
 #[test]
 fn small_sides(rt: HostRuntime) -> Result<(), Fail> {
-    fills_are_equal();
     assert!(rt; fills::<1>(rt.alloc(), Spot { x: 0, y: 0 }, b".", b"b")?);
     // No step goes round an edge, or over a corner.
     assert!(rt; fills::<3>(rt.alloc(), Spot { x: 0, y: 0 }, b".r..r..r.", b"br.br.br.")?);

@@ -1,2 +1,4 @@
+pub mod Drawn
+pub mod PointLists
 pub mod Points
 pub mod Signs

@@ -2,55 +2,18 @@
 use Rattle.std.proofs.Common.{◌≡◌, ◌≢◌, ℕ, suc, ◌+◌, ◌-◌, ◌*◌, ◌/◌, ◌%◌, ◌<◌, ◌≤◌, ◌⊎◌, inl, inr, List, [], ◌∷◌, map, length, get_or, ℤ, pos, refl, sym, ap, ◌∙◌, subst, arith, length-append}
 use Rattle.std.specs.List.{Contains, range_with_len}
 use Rattle.std.proofs.Math.Nat.{mul-le-mul_left, mul-le-mul_right}
-use Rattle.std.proofs.lemmas.Bool.{cases_eq, cases_lt}
+use Rattle.std.proofs.lemmas.Bool.{cases_lt}
 use Rattle.std.proofs.lemmas.List.{get_or_append_left, get_or-append_right}
 use Rattle.std.proofs.lemmas.List.FromFn.{get_or-map-range_with_len, length-map-range_with_len}
 use Rattle.std.proofs.lemmas.Nat.{div-add-mod', div-mul-add}
 use Rattle.canvas.specs.declared.pixel.Spot.{Spot}
 use Rattle.canvas.specs.Pixels.{Rgba, IsSquare, pixel_at, with_pixel}
-use Rattle.canvas.proofs.PixelLemmas.{pixel_at-with_pixel, pixel_at-with_pixel_other, same_bitmaps}
-use Rattle.line_draw.specs.Lines.{Point, point_of, point_at, points, steps_of, half_of, coordinate_at, IsLine, LinesAreEqual}
+use Rattle.canvas.proofs.PixelLemmas.{cases_pixel, pixel_at-with_pixel, pixel_at-with_pixel_other, same_bitmaps}
+use Rattle.canvas.proofs.SpotLemmas.{cases_spot, same_spot}
+use Rattle.line_draw.specs.Lines.{Point, point_of, point_at, points, steps_of, half_of, coordinate_at, IsLine}
+use Rattle.line_draw.specs.LineLaws.{LinesAreEqual}
 use Rattle.line_draw.specs.Walks.{IsWalked, place_at, spot_at}
 use Rattle.line_draw.proofs.Signs.{coordinate_is}
-
--- a spot by its coordinates
-same_spot : (s t : Spot) → s.x ≡ t.x → s.y ≡ t.y → s ≡ t
-same_spot s t x y =
-    let made : ℕ → ℕ → Spot = λ u v. record { x = u; y = v } in
-    ap (λ k. made k s.y) x ∙ ap (λ k. made t.x k) y
-
--- two spots are equal or not
-cases_spot : (s t : Spot) → (s ≡ t) ⊎ (s ≢ t)
-cases_spot s t =
-    elim (cases_eq s.x t.x) [
-      | inr n ↦ inr (λ e. n (ap (λ q. q.x) e))
-      | inl x ↦ elim (cases_eq s.y t.y) [
-        | inr n ↦ inr (λ e. n (ap (λ q. q.y) e))
-        | inl y ↦ inl (same_spot s t x y)
-      ]
-    ]
-
--- two pixels are equal or not
-same_pixel : (p q : Rgba) → p.red ≡ q.red → p.green ≡ q.green → p.blue ≡ q.blue → p.alpha ≡ q.alpha → p ≡ q
-same_pixel p q r g b a =
-    let made : ℕ → ℕ → ℕ → ℕ → Rgba = λ r g b a. record { red = r; green = g; blue = b; alpha = a } in
-    ap (λ k. made k p.green p.blue p.alpha) r ∙ (ap (λ k. made q.red k p.blue p.alpha) g ∙ (ap (λ k. made q.red q.green k p.alpha) b ∙ ap (λ k. made q.red q.green q.blue k) a))
-
-cases_pixel : (p q : Rgba) → (p ≡ q) ⊎ (p ≢ q)
-cases_pixel p q =
-    elim (cases_eq p.red q.red) [
-      | inr n ↦ inr (λ e. n (ap (λ c. c.red) e))
-      | inl r ↦ elim (cases_eq p.green q.green) [
-        | inr n ↦ inr (λ e. n (ap (λ c. c.green) e))
-        | inl g ↦ elim (cases_eq p.blue q.blue) [
-          | inr n ↦ inr (λ e. n (ap (λ c. c.blue) e))
-          | inl b ↦ elim (cases_eq p.alpha q.alpha) [
-            | inr n ↦ inr (λ e. n (ap (λ c. c.alpha) e))
-            | inl a ↦ inl (same_pixel p q r g b a)
-          ]
-        ]
-      ]
-    ]
 
 -- two drawings of one line
 pub one_line : LinesAreEqual
@@ -71,8 +34,27 @@ same_from_point s t e =
     let y : pos s.y ≡ pos t.y = ap (λ p. p.y) e in
     same_spot s t (cc) (cc)
 
+-- the points of a line, one after another
+pub count_of_points : (start stop : Spot) → length (points start stop) ≡ steps_of start stop + 1
+unfolding points
+count_of_points start stop =
+    omega (arith, length-append (map (point_at start stop) (range_with_len 0 (steps_of start stop))) (point_of stop ∷ []), length-map-range_with_len (point_at start stop) 0 (steps_of start stop))
+
+pub nth_of : (start stop : Spot) (k : ℕ) (p : Point) → k < steps_of start stop → get_or (points start stop) k p ≡ point_at start stop k
+unfolding points
+nth_of start stop k p within =
+    get_or_append_left (map (point_at start stop) (range_with_len 0 (steps_of start stop))) (point_of stop ∷ []) p k (omega (arith, length-map-range_with_len (point_at start stop) 0 (steps_of start stop)))
+    ∙ get_or-map-range_with_len (point_at start stop) 0 (steps_of start stop) k k p within (omega arith)
+
+pub last_of : (start stop : Spot) (p : Point) → get_or (points start stop) (steps_of start stop) p ≡ point_of stop
+unfolding points
+last_of start stop p =
+    let d = steps_of start stop in
+    let none : d - d ≡ 0 = omega arith in
+    get_or-append_right (map (point_at start stop) (range_with_len 0 d)) (point_of stop ∷ []) d d p (length-map-range_with_len (point_at start stop) 0 d) (omega arith) ∙ ap (λ k. get_or (point_of stop ∷ []) k p) none
+
 module _ (start stop : Spot) (d h : ℕ) (is_steps : d ≡ steps_of start stop) (is_half : 0 < d → half_of start stop ≡ pos h) where
-  point_is : (k : ℕ) → k < d → point_at start stop k ≡ point_of (spot_at start stop d h k)
+  pub point_is : (k : ℕ) → k < d → point_at start stop k ≡ point_of (spot_at start stop d h k)
   point_is k within =
       let half = is_half (omega arith) in
       let made : ℤ → ℤ → Point = λ u v. record { x = u; y = v } in
@@ -80,27 +62,14 @@ module _ (start stop : Spot) (d h : ℕ) (is_steps : d ≡ steps_of start stop) 
       let y : coordinate_at (steps_of start stop) (half_of start stop) start.y stop.y k ≡ pos (place_at start.y stop.y d h k) = rw (half, ← is_steps) (coordinate_is d h start.y stop.y k (omega arith)) in
       ap (λ u. made u (coordinate_at (steps_of start stop) (half_of start stop) start.y stop.y k)) x ∙ ap (λ v. made (pos (place_at start.x stop.x d h k)) v) y
 
-  stepped : List Point
-  stepped = map (point_at start stop) (range_with_len 0 (steps_of start stop))
-
-  long : length (map (point_at start stop) (range_with_len 0 (steps_of start stop))) ≡ d
-  long = length-map-range_with_len (point_at start stop) 0 (steps_of start stop) ∙ sym is_steps
-
   nth_point : (k : ℕ) (p : Point) → k < d → get_or (points start stop) k p ≡ point_of (spot_at start stop d h k)
-  unfolding points
-  nth_point k p within =
-      get_or_append_left (map (point_at start stop) (range_with_len 0 (steps_of start stop))) (point_of stop ∷ []) p k (omega (arith, long))
-      ∙ (get_or-map-range_with_len (point_at start stop) 0 (steps_of start stop) k k p (omega (arith, is_steps)) (omega arith) ∙ point_is k within)
+  nth_point k p within = nth_of start stop k p (omega (arith, is_steps)) ∙ point_is k within
 
   last_point : (p : Point) → get_or (points start stop) d p ≡ point_of stop
-  unfolding points
-  last_point p =
-      let none : d - d ≡ 0 = omega arith in
-      get_or-append_right (map (point_at start stop) (range_with_len 0 (steps_of start stop))) (point_of stop ∷ []) d d p long (omega arith) ∙ ap (λ k. get_or (point_of stop ∷ []) k p) none
+  last_point p = rw is_steps (last_of start stop p)
 
   all_points : length (points start stop) ≡ d + 1
-  unfolding points
-  all_points = omega (arith, length-append (map (point_at start stop) (range_with_len 0 (steps_of start stop))) (point_of stop ∷ []), long)
+  all_points = count_of_points start stop ∙ ap (λ n. n + 1) (sym is_steps)
 
   -- a point is that after some step, or the last
   cases_point : (s : Spot) → Contains (points start stop) (point_of s) → ((k : ℕ) × (k < d) × (spot_at start stop d h k ≡ s)) ⊎ (stop ≡ s)

@@ -55,9 +55,3 @@ pub record IsLine (side : ℕ) (was : List Rgba) (start stop : Spot) (pixel : Rg
   pub others :
       (s : Spot) → s.x < side → s.y < side → ¬ Contains (points start stop) (point_of s)
       → pixel_at side now s.x s.y ≡ pixel_at side was s.x s.y
-
--- a bitmap, two spots and a pixel have one line
-abbrev pub LinesAreEqual : Type 0
-LinesAreEqual =
-    (side : ℕ) (was first second : List Rgba) (start stop : Spot) (pixel : Rgba)
-    → IsLine side was start stop pixel first → IsLine side was start stop pixel second → first ≡ second

@@ -3,10 +3,9 @@
 
 mod axis;
 mod draw;
-mod law;
+pub mod laws;
 
 pub use draw::line;
-pub use law::lines_are_equal;
 
 #[cfg(test)]
 mod tests;

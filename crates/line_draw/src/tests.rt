@@ -1,6 +1,6 @@
 ghost use Rattle.std.specs.Prelude.{◌<◌, ◌≤◌};
 
-use crate::{line, lines_are_equal};
+use crate::line;
 use canvas::{Bitmap, Pixel, Spot};
 use fuun_base::NoMemory;
 use std::alloc::Global;
@@ -32,7 +32,6 @@ fn draws<const SIDE: usize>(
 
 #[test]
 fn small_sides(rt: HostRuntime) -> Result<(), Fail> {
-    lines_are_equal();
     let corner = Spot { x: 0, y: 0 };
     assert!(rt; draws::<1>(rt.alloc(), corner, corner, b"#")?);
     assert!(rt; draws::<3>(rt.alloc(), corner, corner, b"#........")?);

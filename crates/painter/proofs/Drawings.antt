@@ -1,7 +1,7 @@
 -- What is drawn on the top bitmap.
 use Rattle.std.proofs.Common.{◌≡◌, ℕ, List, [], ◌∷◌, refl, sym, subst, ap, ◌∙◌}
 use Rattle.canvas.specs.Pixels.{Rgba}
-use Rattle.canvas.specs.Buckets.{pixel_of}
+use Rattle.canvas.specs.Buckets.{current_pixel}
 use Rattle.flood.specs.Region.{IsFill}
 use Rattle.layers.specs.Layers.{top_of}
 use Rattle.layers.specs.Lending.{with_top}
@@ -21,12 +21,12 @@ drawn p q how now top is =
     }
 
 -- a fill of the top bitmap
-pub fill_drawn : (side : ℕ) (board p q : Picture) (was now : List Rgba) (pixel : Rgba) → board ≡ p → pixel ≡ pixel_of board.bucket → was ≡ top_of board.layers → IsFill side was board.at pixel now → q ≡ record board { layers = with_top board.layers now } → IsDrawn p q (λ old new. IsFill side old p.at (pixel_of p.bucket) new)
+pub fill_drawn : (side : ℕ) (board p q : Picture) (was now : List Rgba) (pixel : Rgba) → board ≡ p → pixel ≡ current_pixel board.bucket → was ≡ top_of board.layers → IsFill side was board.at pixel now → q ≡ record board { layers = with_top board.layers now } → IsDrawn p q (λ old new. IsFill side old p.at (current_pixel p.bucket) new)
 fill_drawn side board p q was now pixel same pixel_is was_is fill is =
     let W : List Rgba → Type 0 = λ old. IsFill side old board.at pixel now in
     let X : Rgba → Type 0 = λ x. IsFill side (top_of board.layers) board.at x now in
-    let P : Picture → Type 0 = λ m. IsDrawn m q (λ old new. IsFill side old m.at (pixel_of m.bucket) new) in
-    subst P same (drawn board q (λ old new. IsFill side old board.at (pixel_of board.bucket) new) now (subst X pixel_is (subst W was_is fill)) is)
+    let P : Picture → Type 0 = λ m. IsDrawn m q (λ old new. IsFill side old m.at (current_pixel m.bucket) new) in
+    subst P same (drawn board q (λ old new. IsFill side old board.at (current_pixel board.bucket) new) now (subst X pixel_is (subst W was_is fill)) is)
 
 pub drawn_once : (p q r : Picture) (how : List Rgba → List Rgba → Type 0) → ((a b : List Rgba) → how (top_of p.layers) a → how (top_of p.layers) b → a ≡ b) → IsDrawn p q how → IsDrawn p r how → q ≡ r
 drawn_once p q r how one a b =

@@ -3,7 +3,7 @@ use Rattle.std.proofs.Common.{◌≡◌, ℕ, List, [], ◌∷◌, Option, Some,
 use Rattle.fuun_base.specs.declared.letters.Base.{Base}
 use Rattle.rna_code.specs.declared.acts.Act.{Act}
 use Rattle.rna_code.specs.declared.acts.Act.TheVariants.{Add, EmptyBucket, Move, TurnLeft, TurnRight, Mark, Line, Fill, AddLayer, CopyLayer, Compose, Clip}
-use Rattle.canvas.specs.Buckets.{pixel_of}
+use Rattle.canvas.specs.Buckets.{current_pixel}
 use Rattle.line_draw.specs.Lines.{IsLine}
 use Rattle.line_draw.proofs.Points.{one_line}
 use Rattle.flood.specs.Region.{IsFill}
@@ -19,8 +19,8 @@ acts_once side most Move p q r a b = a ∙ sym b
 acts_once side most TurnLeft p q r a b = a ∙ sym b
 acts_once side most TurnRight p q r a b = a ∙ sym b
 acts_once side most Mark p q r a b = a ∙ sym b
-acts_once side most Line p q r a b = drawn_once p q r (λ was now. IsLine side was p.at p.mark (pixel_of p.bucket) now) (λ m n. one_line side (top_of p.layers) m n p.at p.mark (pixel_of p.bucket)) a b
-acts_once side most Fill p q r a b = drawn_once p q r (λ was now. IsFill side was p.at (pixel_of p.bucket) now) (λ m n. one_fill side (top_of p.layers) m n p.at (pixel_of p.bucket)) a b
+acts_once side most Line p q r a b = drawn_once p q r (λ was now. IsLine side was p.at p.mark (current_pixel p.bucket) now) (λ m n. one_line side (top_of p.layers) m n p.at p.mark (current_pixel p.bucket)) a b
+acts_once side most Fill p q r a b = drawn_once p q r (λ was now. IsFill side was p.at (current_pixel p.bucket) now) (λ m n. one_fill side (top_of p.layers) m n p.at (current_pixel p.bucket)) a b
 acts_once side most AddLayer p q r a b = a ∙ sym b
 acts_once side most CopyLayer p q r a b = a ∙ sym b
 acts_once side most Compose p q r a b = a ∙ sym b

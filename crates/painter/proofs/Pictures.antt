@@ -8,10 +8,12 @@ use Rattle.rna_code.specs.declared.acts.Ink.{Ink}
 use Rattle.rna_code.specs.declared.acts.Act.{Act}
 use Rattle.rna_code.specs.declared.acts.Act.TheVariants.{Add, EmptyBucket, Move, TurnLeft, TurnRight, Mark, Line, Fill, AddLayer, CopyLayer, Compose, Clip}
 use Rattle.canvas.specs.declared.pixel.Spot.{Spot}
-use Rattle.canvas.specs.Pixels.{Rgba, IsSquare, blank, transparent}
-use Rattle.canvas.specs.Buckets.{pixel_of}
+use Rattle.canvas.specs.Pixels.{Rgba, IsInside, IsSquare, blank, transparent}
+use Rattle.canvas.specs.Buckets.{current_pixel}
 use Rattle.line_draw.specs.Lines.{IsLine}
-use Rattle.flood.specs.Region.{IsFill, IsInside}
+use Rattle.line_draw.proofs.Drawn.{a_line}
+use Rattle.flood.specs.Region.{IsFill}
+use Rattle.flood.proofs.Fills.{a_fill}
 use Rattle.layers.specs.Layers.{clipped, over, top_of, with_copy, with_layer, with_merged}
 use Rattle.layers.specs.Lending.{with_top}
 use Rattle.layers.proofs.EachPlace.{length-each_place}
@@ -20,8 +22,6 @@ use Rattle.painter.specs.declared.direction.Direction.TheVariants.{North, East, 
 use Rattle.painter.specs.Picture.{Picture, Table, Does, DoesIfAny, Builds, left_of, moved, right_of, start}
 use Rattle.painter.specs.PictureLaws.{AreSquare, IsPicture}
 use Rattle.painter.proofs.Drawings.{drawn}
-use Rattle.painter.proofs.Fills.{a_fill}
-use Rattle.painter.proofs.Lines.{a_line}
 
 blank_square : (side : ℕ) → 1 ≤ side → side ≤ 1024 → IsSquare side (blank side)
 blank_square side nonempty small = record { nonempty = nonempty; small = small; filled = length-replicate (side * side) transparent }
@@ -97,16 +97,16 @@ Outcome side most act p = (q : Picture) × (Does side most act p q × IsPicture 
 line_outcome : (side most : ℕ) (p : Picture) → IsPicture side most p → Outcome side most Line p
 line_outcome side most p is =
     let are = layers_of side most p is in
-    let made = a_line side (top_of p.layers) p.at p.mark (pixel_of p.bucket) (top_square side most p.layers are) in
+    let made = a_line side (top_of p.layers) p.at p.mark (current_pixel p.bucket) (top_square side most p.layers are) in
     let q : Picture = record p { layers = with_top p.layers made.0 } in
-    (q, (drawn p q (λ was now. IsLine side was p.at p.mark (pixel_of p.bucket) now) made.0 made.1 refl, with_layers side most p (with_top p.layers made.0) is (top_drawn side most p.layers made.0 made.1.square are)))
+    (q, (drawn p q (λ was now. IsLine side was p.at p.mark (current_pixel p.bucket) now) made.0 made.1 refl, with_layers side most p (with_top p.layers made.0) is (top_drawn side most p.layers made.0 made.1.square are)))
 
 fill_outcome : (side most : ℕ) (p : Picture) → IsPicture side most p → Outcome side most Fill p
 fill_outcome side most p is =
     let are = layers_of side most p is in
-    let made = a_fill side (top_of p.layers) p.at (pixel_of p.bucket) (top_square side most p.layers are) is.position in
+    let made = a_fill side (top_of p.layers) p.at (current_pixel p.bucket) (top_square side most p.layers are) is.position in
     let q : Picture = record p { layers = with_top p.layers made.0 } in
-    (q, (drawn p q (λ was now. IsFill side was p.at (pixel_of p.bucket) now) made.0 made.1 refl, with_layers side most p (with_top p.layers made.0) is (top_drawn side most p.layers made.0 made.1.square are)))
+    (q, (drawn p q (λ was now. IsFill side was p.at (current_pixel p.bucket) now) made.0 made.1 refl, with_layers side most p (with_top p.layers made.0) is (top_drawn side most p.layers made.0 made.1.square are)))
 
 pub acts_always : (side most : ℕ) (act : Act) (p : Picture) → IsPicture side most p → Outcome side most act p
 acts_always side most (Add ink) p is = (record p { bucket = p.bucket ++ ink ∷ [] }, (refl, with_rest side most p (p.bucket ++ ink ∷ []) p.at p.mark p.facing is is.position is.aim))

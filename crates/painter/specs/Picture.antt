@@ -6,7 +6,7 @@ use Rattle.rna_code.specs.declared.acts.Act.{Act}
 use Rattle.rna_code.specs.declared.acts.Act.TheVariants.{Add, EmptyBucket, Move, TurnLeft, TurnRight, Mark, Line, Fill, AddLayer, CopyLayer, Compose, Clip}
 use Rattle.canvas.specs.declared.pixel.Spot.{Spot}
 use Rattle.canvas.specs.Pixels.{Rgba, blank}
-use Rattle.canvas.specs.Buckets.{pixel_of}
+use Rattle.canvas.specs.Buckets.{current_pixel}
 use Rattle.line_draw.specs.Lines.{IsLine}
 use Rattle.flood.specs.Region.{IsFill}
 use Rattle.layers.specs.Layers.{top_of, with_clipped, with_composed, with_copy, with_layer}
@@ -64,8 +64,8 @@ Does side most Move p q = q ≡ record p { at = moved side p.facing p.at }
 Does side most TurnLeft p q = q ≡ record p { facing = left_of p.facing }
 Does side most TurnRight p q = q ≡ record p { facing = right_of p.facing }
 Does side most Mark p q = q ≡ record p { mark = p.at }
-Does side most Line p q = IsDrawn p q (λ was now. IsLine side was p.at p.mark (pixel_of p.bucket) now)
-Does side most Fill p q = IsDrawn p q (λ was now. IsFill side was p.at (pixel_of p.bucket) now)
+Does side most Line p q = IsDrawn p q (λ was now. IsLine side was p.at p.mark (current_pixel p.bucket) now)
+Does side most Fill p q = IsDrawn p q (λ was now. IsFill side was p.at (current_pixel p.bucket) now)
 Does side most AddLayer p q = q ≡ record p { layers = with_layer side most p.layers }
 Does side most CopyLayer p q = q ≡ record p { layers = with_copy most p.layers }
 Does side most Compose p q = q ≡ record p { layers = with_composed p.layers }

@@ -2,8 +2,7 @@
 use Rattle.std.specs.Prelude.{◌≡◌, ℕ, ◌≤◌, List, [], ◌∷◌, length}
 use Rattle.fuun_base.specs.declared.letters.Base.{Base}
 use Rattle.rna_code.specs.declared.acts.Act.{Act}
-use Rattle.canvas.specs.Pixels.{IsSquare, Rgba}
-use Rattle.flood.specs.Region.{IsInside}
+use Rattle.canvas.specs.Pixels.{IsInside, IsSquare, Rgba}
 use Rattle.painter.specs.Picture.{Picture, Table, Does, Builds, start}
 
 -- bitmaps of one side

@@ -20,7 +20,9 @@ fn drawn<const SIDE: usize, const MAX: usize>(
     let commands = read_rna(alloc, lines.as_bytes())?;
     let mut painter = Painter::new(alloc, profile)?;
     for command in commands.as_slice() {
-        painter.paint(command);
+        painter
+            .take(command)
+            .map_err(|_| "a command was not taken")?;
     }
     Ok(painter)
 }
@@ -122,15 +124,12 @@ fn a_move_round_the_edge_of_a_whole_picture(rt: HostRuntime) -> Result<(), Fail>
 
 #[test]
 fn a_copied_layer_is_in_the_wide_profile_alone(rt: HostRuntime) -> Result<(), Fail> {
-    let commands = read_rna(rt.alloc(), b"PIPIIIP\nPIPIIPF\nPIPIIPP\nPIIPIIP\nPIPIIFP\nPFFPCCP\n")?;
+    let lines = "PIPIIIP\nPIPIIPF\nPIPIIPP\nPIIPIIP\nPIPIIFP\nPFFPCCP\n";
     for (profile, shown) in [
         (Profile::Plain, Pixel::of(127, 0, 0, 127)),
         (Profile::Wide, Pixel::of(190, 0, 0, 190)),
     ] {
-        let mut painter = Painter::<3, 10>::new(rt.alloc(), profile)?;
-        for command in commands.as_slice() {
-            assert_eq!(rt; painter.take(command), Ok(()));
-        }
+        let painter = drawn::<3, 10>(rt.alloc(), lines, profile)?;
         assert!(rt; painter.top().pixels().iter().all(|pixel| *pixel == shown));
     }
     Ok(())

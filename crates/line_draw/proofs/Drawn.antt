@@ -4,11 +4,11 @@ use Rattle.std.specs.Prelude.{ℤ, pos, negsuc, slice_index_or}
 use Rattle.std.specs.List.{Contains}
 use Rattle.std.proofs.lemmas.Bool.{cases_lt}
 use Rattle.canvas.specs.declared.pixel.Spot.{Spot}
-use Rattle.canvas.specs.Pixels.{Rgba, IsSquare, pixel_at}
-use Rattle.flood.specs.Region.{IsInside}
+use Rattle.canvas.specs.Pixels.{Rgba, IsInside, IsSquare, pixel_at, with_pixel}
+use Rattle.canvas.proofs.Decided.{Decided, both}
+use Rattle.canvas.proofs.PixelLemmas.{IsSquare-with_pixel, pixel_at-with_pixel, pixel_at-with_pixel_other}
+use Rattle.canvas.proofs.SpotLemmas.{same_place}
 use Rattle.line_draw.specs.Lines.{Point, IsLine, point_of, points}
-use Rattle.painter.proofs.Decided.{Decided, both}
-use Rattle.painter.proofs.Fills.{same_place, set_elsewhere, set_square, set_there, with_spot}
 
 split_contains : (p : Point) (rest : List Point) (q : Point) (k : ℕ) → k < length (p ∷ rest) → slice_index_or (p ∷ rest) k q ≡ q → (p ≡ q) ⊎ Contains rest q
 split_contains p rest q zero within is = inl is
@@ -46,19 +46,19 @@ record AreSet (side : ℕ) (was : List Rgba) (ps : List Point) (pixel : Rgba) (n
   others : (s : Spot) → s.x < side → s.y < side → ¬ Contains ps (point_of s) → pixel_at side now s.x s.y ≡ pixel_at side was s.x s.y
 
 -- one point more, that is a spot
-set_spot : (side : ℕ) (was : List Rgba) (p : Point) (rest : List Point) (pixel : Rgba) (now : List Rgba) (at : Spot) → IsInside side at → p ≡ point_of at → AreSet side was rest pixel now → AreSet side was (p ∷ rest) pixel (with_spot side now at pixel)
+set_spot : (side : ℕ) (was : List Rgba) (p : Point) (rest : List Point) (pixel : Rgba) (now : List Rgba) (at : Spot) → IsInside side at → p ≡ point_of at → AreSet side was rest pixel now → AreSet side was (p ∷ rest) pixel (with_pixel side now at.x at.y pixel)
 set_spot side was p rest pixel now at inside is done = record {
-  square = set_square side now at pixel done.square inside;
+  square = IsSquare-with_pixel side now at.x at.y pixel done.square;
   set = λ s in_x in_y has. elim (same_place at s) [
-    | inl same ↦ set_there side now at s pixel done.square inside same.0 same.1
-    | inr other ↦ set_elsewhere side now at s pixel done.square inside (in_x, in_y) other ∙ elim (split_contains p rest (point_of s) has.0 has.1 has.2) [
-      | inl first ↦ let e = sym first ∙ is in absurd (other (same_pos s.x at.x (ap (λ q. q.x) e), same_pos s.y at.y (ap (λ q. q.y) e)))
+    | inl same ↦ rw (← same.0, ← same.1) (pixel_at-with_pixel side now at.x at.y pixel done.square inside.0 inside.1)
+    | inr other ↦ pixel_at-with_pixel_other side now at.x at.y s.x s.y pixel inside.0 in_x (λ x y. other (sym x, sym y)) ∙ elim (split_contains p rest (point_of s) has.0 has.1 has.2) [
+      | inl first ↦ let e = sym is ∙ first in absurd (other (same_pos at.x s.x (ap (λ q. q.x) e), same_pos at.y s.y (ap (λ q. q.y) e)))
       | inr later ↦ done.set s in_x in_y later
     ]
   ];
   others = λ s in_x in_y none. elim (same_place at s) [
-    | inl same ↦ absurd (none (0, omega arith, is ∙ ap (λ k. point (pos k) (pos at.y)) (sym same.0) ∙ ap (λ k. point (pos s.x) (pos k)) (sym same.1)))
-    | inr other ↦ set_elsewhere side now at s pixel done.square inside (in_x, in_y) other ∙ done.others s in_x in_y (λ has. none (suc has.0, omega (arith, has.1), has.2))
+    | inl same ↦ absurd (none (0, omega arith, is ∙ ap (λ k. point (pos k) (pos at.y)) same.0 ∙ ap (λ k. point (pos s.x) (pos k)) same.1))
+    | inr other ↦ pixel_at-with_pixel_other side now at.x at.y s.x s.y pixel inside.0 in_x (λ x y. other (sym x, sym y)) ∙ done.others s in_x in_y (λ has. none (suc has.0, omega (arith, has.1), has.2))
   ];
 }
 
@@ -75,7 +75,7 @@ set_all side was [] pixel square = (was, record { square = square; set = λ s in
 set_all side was (p ∷ rest) pixel square =
     let done = set_all side was rest pixel square in
     elim (spot_or_none side p.x p.y) [
-      | inl at ↦ (with_spot side done.0 at.0 pixel, set_spot side was p rest pixel done.0 at.0 at.1.0 at.1.1 done.1)
+      | inl at ↦ (with_pixel side done.0 at.0.x at.0.y pixel, set_spot side was p rest pixel done.0 at.0 at.1.0 at.1.1 done.1)
       | inr out ↦ (done.0, set_none side was p rest pixel done.0 out done.1)
     ]
 

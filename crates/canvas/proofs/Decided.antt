@@ -1,4 +1,4 @@
--- Facts on spots that are decided, and a search for a spot.
+-- Facts that are decided, and a search for a number.
 use Rattle.std.proofs.Common.{◌≡◌, ℕ, zero, suc, ◌<◌, ◌⊎◌, inl, inr, subst, arith}
 use Rattle.std.proofs.lemmas.Bool.{cases_order}
 

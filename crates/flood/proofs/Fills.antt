@@ -1,36 +1,30 @@
 -- Each bitmap has a fill: one spot of the region after another is set, until none is left.
 use Rattle.std.proofs.Common.{◌≡◌, ◌≢◌, ℕ, zero, suc, ◌+◌, ◌≤◌, ◌⊎◌, inl, inr, List, refl, sym, subst, ap, ◌∙◌, arith}
 use Rattle.canvas.specs.declared.pixel.Spot.{Spot}
-use Rattle.canvas.specs.Pixels.{Rgba, IsSquare, with_span}
-use Rattle.canvas.proofs.PixelLemmas.{IsSquare-with_span, pixel_at-with_span, pixel_at-with_span_other}
-use Rattle.flood.specs.Region.{AreNeighbours, DifferByOne, IsFill, IsInRegion, IsInside, pixel_of}
+use Rattle.canvas.specs.Pixels.{Rgba, IsInside, IsSquare, with_span}
+use Rattle.canvas.proofs.Decided.{Decided, Some_below, both, either, same_number, search_below}
+use Rattle.canvas.proofs.PixelLemmas.{cases_pixel, IsSquare-with_span, pixel_at-with_span, pixel_at-with_span_other}
+use Rattle.canvas.proofs.SpotLemmas.{same_place, same_spot}
+use Rattle.flood.specs.Region.{AreNeighbours, DifferByOne, IsFill, IsInRegion, pixel_of}
+use Rattle.flood.specs.FillLaws.{FillsAlways, RegionsAreDecided}
 use Rattle.flood.specs.Filling.{count_of}
-use Rattle.flood.proofs.Counts.{cases_pixel, count_of-with_span}
+use Rattle.flood.proofs.Counts.{count_of-with_span}
 use Rattle.flood.proofs.Regions.{in_region, region_alike, region_here, region_more}
-use Rattle.painter.proofs.Decided.{Decided, Some_below, both, either, same_number, search_below}
 
 -- one spot set
-abbrev pub with_spot : ℕ → List Rgba → Spot → Rgba → List Rgba
+abbrev with_spot : ℕ → List Rgba → Spot → Rgba → List Rgba
 with_spot side pixels s p = with_span side pixels s.y s.x (s.x + 1) p
 
-pub set_there : (side : ℕ) (pixels : List Rgba) (s t : Spot) (p : Rgba) → IsSquare side pixels → IsInside side s → t.x ≡ s.x → t.y ≡ s.y → pixel_of side (with_spot side pixels s p) t ≡ p
+set_there : (side : ℕ) (pixels : List Rgba) (s t : Spot) (p : Rgba) → IsSquare side pixels → IsInside side s → t.x ≡ s.x → t.y ≡ s.y → pixel_of side (with_spot side pixels s p) t ≡ p
 set_there side pixels s t p square inside same_x same_y =
     rw (same_x, same_y) (pixel_at-with_span side pixels s.y s.x (s.x + 1) s.x p square inside.1 (omega arith) (omega arith) (omega (arith, inside.0)))
 
-pub set_elsewhere : (side : ℕ) (pixels : List Rgba) (s t : Spot) (p : Rgba) → IsSquare side pixels → IsInside side s → IsInside side t → ¬ ((t.x ≡ s.x) × (t.y ≡ s.y)) → pixel_of side (with_spot side pixels s p) t ≡ pixel_of side pixels t
+set_elsewhere : (side : ℕ) (pixels : List Rgba) (s t : Spot) (p : Rgba) → IsSquare side pixels → IsInside side s → IsInside side t → ¬ ((t.x ≡ s.x) × (t.y ≡ s.y)) → pixel_of side (with_spot side pixels s p) t ≡ pixel_of side pixels t
 set_elsewhere side pixels s t p square inside in_t other =
     pixel_at-with_span_other side pixels s.y s.x (s.x + 1) t.x t.y p square inside.1 (omega arith) (omega (arith, inside.0)) in_t.0 (λ row from to. other (omega arith, row))
 
-pub set_square : (side : ℕ) (pixels : List Rgba) (s : Spot) (p : Rgba) → IsSquare side pixels → IsInside side s → IsSquare side (with_spot side pixels s p)
+set_square : (side : ℕ) (pixels : List Rgba) (s : Spot) (p : Rgba) → IsSquare side pixels → IsInside side s → IsSquare side (with_spot side pixels s p)
 set_square side pixels s p square inside = IsSquare-with_span side pixels s.y s.x (s.x + 1) p square inside.1 (omega arith) (omega (arith, inside.0))
-
-pub same_place : (s t : Spot) → Decided ((t.x ≡ s.x) × (t.y ≡ s.y))
-same_place s t = both (t.x ≡ s.x) (t.y ≡ s.y) (same_number t.x s.x) (same_number t.y s.y)
-
-same_spot : (s t : Spot) → t.x ≡ s.x → t.y ≡ s.y → t ≡ s
-same_spot s t same_x same_y =
-    ap (λ k. let q : Spot = record { x = k; y = t.y } in q) same_x
-    ∙ ap (λ k. let q : Spot = record { x = s.x; y = k } in q) same_y
 
 -- some spots of the region are set
 record IsGrown (side : ℕ) (was : List Rgba) (spot : Spot) (to : Rgba) (now : List Rgba) : Type 0 where
@@ -87,9 +81,9 @@ grow_at side was now spot to s t inside differ in_s in_t e g =
     let R : Spot → Type 0 = λ q. IsInRegion side was spot q in (
       record {
         square = set_square side now t to g.square in_t;
-        here = elim (same_place t spot) [ inl same ↦ set_there side now t spot to g.square in_t same.0 same.1 | inr other ↦ set_elsewhere side now t spot to g.square in_t inside other ∙ g.here ];
-        kept = λ u in_u. elim (same_place t u) [
-          | inl same ↦ inr (subst R (sym (same_spot t u same.0 same.1)) t_in, set_there side now t u to g.square in_t same.0 same.1)
+        here = elim (same_place spot t) [ inl same ↦ set_there side now t spot to g.square in_t same.0 same.1 | inr other ↦ set_elsewhere side now t spot to g.square in_t inside other ∙ g.here ];
+        kept = λ u in_u. elim (same_place u t) [
+          | inl same ↦ inr (subst R (sym (same_spot u t same.0 same.1)) t_in, set_there side now t u to g.square in_t same.0 same.1)
           | inr other ↦ let as_was = set_elsewhere side now t u to g.square in_t in_u other in
               elim (g.kept u in_u) [ inl same ↦ inl (as_was ∙ same) | inr set ↦ inr (set.0, as_was ∙ set.1) ]
         ];
@@ -125,21 +119,50 @@ filled side was now spot to differ inside g closed =
       others = λ s in_s out. elim (g.kept s in_s) [ inl same ↦ same | inr set ↦ absurd (out set.0) ];
     }
 
-pub a_fill : (side : ℕ) (was : List Rgba) (spot : Spot) (to : Rgba) → IsSquare side was → IsInside side spot → (now : List Rgba) × IsFill side was spot to now
+-- the region of a spot is set, for a pixel that differs
+fill_grown : (side : ℕ) (was : List Rgba) (spot : Spot) (to : Rgba) → IsSquare side was → IsInside side spot → pixel_of side was spot ≢ to
+    → (end : List Rgba) × (IsGrown side was spot to end × IsClosed side was end (pixel_of side was spot) to)
+fill_grown side was spot to square inside differ =
+    let R : Spot → Type 0 = λ q. IsInRegion side was spot q in
+    let first = with_spot side was spot to in
+    let g : IsGrown side was spot to first = record {
+      square = set_square side was spot to square inside;
+      here = set_there side was spot spot to square inside refl refl;
+      kept = λ u in_u. elim (same_place u spot) [
+        | inl same ↦ inr (subst R (sym (same_spot u spot same.0 same.1)) (region_here side was spot inside), set_there side was spot u to square inside same.0 same.1)
+        | inr other ↦ inl (set_elsewhere side was spot u to square inside in_u other)
+      ];
+    } in
+    grow (count_of (pixel_of side was spot) first) side was first spot to inside differ (omega arith) g
+
+pub a_fill : FillsAlways
 a_fill side was spot to square inside =
     elim (cases_pixel (pixel_of side was spot) to) [
       | inl same ↦ (was, record { square = square; region = λ s region. region_alike side was spot s region ∙ same; others = λ s in_s out. refl })
       | inr differ ↦
-          let R : Spot → Type 0 = λ q. IsInRegion side was spot q in
-          let first = with_spot side was spot to in
-          let g : IsGrown side was spot to first = record {
-            square = set_square side was spot to square inside;
-            here = set_there side was spot spot to square inside refl refl;
-            kept = λ u in_u. elim (same_place spot u) [
-              | inl same ↦ inr (subst R (sym (same_spot spot u same.0 same.1)) (region_here side was spot inside), set_there side was spot u to square inside same.0 same.1)
-              | inr other ↦ inl (set_elsewhere side was spot u to square inside in_u other)
-            ];
-          } in
-          let end = grow (count_of (pixel_of side was spot) first) side was first spot to inside differ (omega arith) g in
+          let end = fill_grown side was spot to square inside differ in
           (end.0, filled side was end.0 spot to differ inside end.1.0 end.1.1)
+    ]
+
+-- a pixel that differs from another
+other_than : Rgba → Rgba
+other_than p = record { red = suc p.red; green = p.green; blue = p.blue; alpha = p.alpha }
+
+differs : (p : Rgba) → p ≢ other_than p
+unfolding other_than
+differs p e =
+    let red : p.red ≡ suc p.red = ap (λ q. q.red) e in
+    omega arith
+
+-- a fill shows which spots are of the region
+pub region_decided : RegionsAreDecided
+region_decided side was spot s square inside in_s =
+    let from = pixel_of side was spot in
+    let to = other_than from in
+    let end = fill_grown side was spot to square inside (differs from) in
+    elim (end.1.0.kept s in_s) [
+      | inr set ↦ inl set.0
+      | inl same ↦ inr (λ region.
+          let fill = filled side was end.0 spot to (differs from) inside end.1.0 end.1.1 in
+          differs from (sym (region_alike side was spot s region) ∙ sym same ∙ fill.region s region))
     ]
