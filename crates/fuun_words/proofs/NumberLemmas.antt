@@ -1,0 +1,36 @@
+-- A text of digits that std refuses as a number of 64 bits.
+use Rattle.std.proofs.Common.{◌≡◌, ℕ, ◌<◌, ◌^◌, Bool, true, false, ◌&&◌, List, [], ◌∷◌, length, get_or, Some, None, refl, sym, subst, arith, nat_le, nat_lt, if◌then◌else◌}
+use Rattle.std.proofs.lemmas.Bool.{leb-true, ltb-true, lt-leb}
+use Rattle.std.proofs.lemmas.Str.Parse.{without_leading_plus_none, tells_digits}
+use Rattle.std.specs.List.{list_all}
+use Rattle.std.specs.Str.Parse.{AllDigits, IsNumeral, digits_value, without_leading_plus}
+use Rattle.clap.proofs.WalkLemmas.{both}
+use Rattle.fuun_words.specs.Numbers.{is_digit, is_number, number}
+
+digits : (text : List ℕ) → list_all is_digit text ≡ true → AllDigits 10 text
+digits [] all = tt
+digits (c ∷ cs) all =
+    let parts = both (is_digit c) (list_all is_digit cs) all in
+    let range = both (nat_le 48 c) (nat_le c 57) parts.0 in
+    tells_digits.more c cs (leb-true 48 c range.0, leb-true c 57 range.1) (digits cs parts.1)
+
+no_plus : (text : List ℕ) → list_all is_digit text ≡ true → get_or text 0 0 ≡ 43 → ⊥
+no_plus [] all plus = absurd (omega (arith, plus))
+no_plus (c ∷ cs) all plus =
+    let parts = both (is_digit c) (list_all is_digit cs) all in
+    let range = both (nat_le 48 c) (nat_le c 57) parts.0 in
+    omega (arith, leb-true 48 c range.0, plus)
+
+-- such a text stands for a number that is too great
+pub number_refused : (least most : ℕ) (text : List ℕ) → most < 2 ^ 64 → is_number text ≡ true
+    → (IsNumeral 10 (without_leading_plus text) × (digits_value 10 (without_leading_plus text) < 2 ^ 64) → ⊥) → number least most text ≡ None
+number_refused least most text small is refused =
+    let parts = both (nat_lt 0 (length text)) (list_all is_digit text) is in
+    let plain = without_leading_plus_none text (no_plus text parts.1) in
+    let great : digits_value 10 text < 2 ^ 64 → ⊥ = λ lt. refused (subst (λ t. IsNumeral 10 t × (digits_value 10 t < 2 ^ 64)) (sym plain) ((ltb-true 0 (length text) parts.0, digits text parts.1), lt)) in
+    not_all (is_number text) (nat_le least (digits_value 10 text)) _ _ (lt-leb (digits_value 10 text) most (omega (arith, great)))
+  where
+    not_all : (a b c : Bool) (n : ℕ) → c ≡ false → (if a && (b && c) then Some n else None) ≡ None
+    not_all true true c n is = rw is refl
+    not_all true false c n is = refl
+    not_all false b c n is = refl

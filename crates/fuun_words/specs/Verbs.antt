@@ -1,0 +1,30 @@
+-- The verbs and their options.
+use Rattle.std.specs.Prelude.{List, [], ◌∷◌, Option, Some, None, codes, if◌then◌else◌}
+use Rattle.std.specs.Str.{bytes_eq}
+use Rattle.clap.specs.Walk.{Text}
+use Rattle.fuun_words.specs.Commands.{VerbOption}
+use Rattle.fuun_words.specs.declared.verb.Need.TheVariants.{Required, Optional}
+use Rattle.fuun_words.specs.declared.verb.Verb.{Verb}
+use Rattle.fuun_words.specs.declared.verb.Verb.TheVariants.{Rna, Image, Dna, Draw}
+
+-- the verb of this name
+abbrev pub verb_of : Text → Option Verb
+verb_of word =
+    if bytes_eq word (codes "rna") then Some Rna
+    else (if bytes_eq word (codes "image") then Some Image
+    else (if bytes_eq word (codes "dna") then Some Dna
+    else (if bytes_eq word (codes "draw") then Some Draw
+    else None)))
+
+abbrev pub run_options : List VerbOption
+run_options =
+    (codes "dna", Required) ∷ (codes "prefix", Optional) ∷ (codes "budget", Optional) ∷ (codes "limit", Optional) ∷ []
+
+-- the options that a verb has
+abbrev pub options_of : Verb → List VerbOption
+options_of Rna = run_options
+options_of Image =
+    (codes "dna", Required) ∷ (codes "prefix", Optional) ∷ (codes "budget", Optional) ∷ (codes "limit", Optional)
+    ∷ (codes "profile", Optional) ∷ []
+options_of Dna = run_options
+options_of Draw = (codes "rna", Required) ∷ (codes "profile", Optional) ∷ []

@@ -1,0 +1,64 @@
+//! From words to a request.
+ghost use Rattle.std.specs.Prelude.{◌≡◌, IfErr, IfOk, None, Some};
+ghost use Rattle.fuun_words.specs.Commands.{found_in};
+ghost use Rattle.fuun_words.specs.Requests.{request, request_of, run_of, texts, IsInRange, IsRunInRange, Reads};
+
+use crate::command::find_options;
+use crate::values::{budget, limit, name, profile, required_name};
+use crate::verb::Verb;
+use crate::{Request, RunWords, WordsError};
+use clap::ArgMatches;
+use std::alloc::Global;
+
+/// What the words ask for. Words are those after the name of the program, and the first is the verb.
+///
+/// Each verb has options of one value, in any order, as `--budget 5` or `--budget=5`. Which words are taken, and what
+/// value each option has, is the definition of `clap` for a command with these options. A number is one or more
+/// decimal digits and nothing else. All other words are `Usage`, those that ask for help too.
+pub fn read_request(alloc: Global, words: &[String]) -> Result<Request, WordsError>
+    ensures taken { IfOk result (λ asked. request (texts words.now) ≡ Some asked) }
+    ensures refused { IfErr result (λ error. error ≡ WordsError.Usage → request (texts words.now) ≡ None) }
+    ensures range { IfOk result IsInRange }
+{
+    let Some(word) = words.first() else {
+        return Err(WordsError::Usage);
+    };
+    let Some(verb) = Verb::of(word.as_str()) else {
+        return Err(WordsError::Usage);
+    };
+    match find_options(alloc, word.as_str(), verb.options(), words) {
+        Ok(matches) => request_from(alloc, verb, &matches),
+        Err(error) => Err(error),
+    }
+}
+
+/// What a verb asks for, with the values that were found for its options.
+fn request_from(alloc: Global, verb: Verb, matches: &ArgMatches<'_>) -> Result<Request, WordsError>
+    ensures read { Reads (request_of verb (found_in matches.now)) result }
+    ensures range { IfOk result IsInRange }
+{
+    match verb {
+        Verb::Rna => Ok(Request::Rna(run_words(alloc, matches)?)),
+        Verb::Image => Ok(Request::Image {
+            run: run_words(alloc, matches)?,
+            profile: profile(matches)?,
+        }),
+        Verb::Dna => Ok(Request::Dna(run_words(alloc, matches)?)),
+        Verb::Draw => Ok(Request::Draw {
+            rna: required_name(alloc, matches, "rna")?,
+            profile: profile(matches)?,
+        }),
+    }
+}
+
+fn run_words(alloc: Global, matches: &ArgMatches<'_>) -> Result<RunWords, WordsError>
+    ensures read { Reads (run_of (found_in matches.now)) result }
+    ensures range { IfOk result IsRunInRange }
+{
+    Ok(RunWords {
+        dna: required_name(alloc, matches, "dna")?,
+        prefix: name(alloc, matches, "prefix")?,
+        budget: budget(matches)?,
+        limit: limit(matches)?,
+    })
+}

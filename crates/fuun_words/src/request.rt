@@ -1,0 +1,49 @@
+//! What words may ask for.
+ghost use Rattle.std.specs.Prelude.{◌≡◌};
+ghost use Rattle.fuun_words.specs.declared.request.WordsError.TheVariants.{NoMemory as OutOfMemory};
+
+use crate::Name;
+use rna_code::Profile;
+use std::alloc::AllocError;
+
+/// The options of the verbs that run a DNA file.
+#[derive(Debug, Drop)]
+pub struct RunWords {
+    /// The DNA file.
+    pub dna: Name,
+    /// The file whose bases stand before those of the DNA file.
+    pub prefix: Option<Name>,
+    /// The most attempts, from 0 to 2^40.
+    pub budget: u64,
+    /// The most bases that the DNA may have, from 1 to 2^40.
+    pub limit: u64,
+}
+
+/// What the words ask for, one variant a verb.
+#[derive(Debug, Drop)]
+pub enum Request {
+    /// The RNA of a run.
+    Rna(RunWords),
+    /// The picture of a run's RNA.
+    Image { run: RunWords, profile: Profile },
+    /// The DNA where a run ended.
+    Dna(RunWords),
+    /// The picture of an RNA file's commands.
+    Draw { rna: Name, profile: Profile },
+}
+
+/// Why words give no request.
+#[derive(Clone, Copy, Debug, PartialEq, Eq)]
+pub enum WordsError {
+    /// The words are in no form that a verb has.
+    Usage,
+    NoMemory,
+}
+
+impl From<AllocError> for WordsError {
+    ghost from_gives = { λ _ e. e ≡ OutOfMemory };
+
+    fn from(_: AllocError) -> Self {
+        WordsError::NoMemory
+    }
+}

@@ -1,0 +1,66 @@
+//! The verbs, and the options that each has.
+ghost use Rattle.std.specs.Prelude.{◌≡◌, map};
+ghost use Rattle.fuun_words.specs.Commands.{option_of};
+ghost use Rattle.fuun_words.specs.Verbs.{verb_of, options_of};
+
+/// The first word of a request.
+#[derive(Clone, Copy, Debug)]
+pub(crate) enum Verb {
+    Rna,
+    Image,
+    Dna,
+    Draw,
+}
+
+/// Whether a verb asks for an option.
+#[derive(Clone, Copy, Debug, PartialEq, Eq)]
+pub(crate) enum Need {
+    Required,
+    Optional,
+}
+
+/// An option's name, and whether its verb asks for it. Each option takes one value.
+pub(crate) type VerbOption = (&'static str, Need);
+
+static RUN: [VerbOption; 4] = [
+    ("dna", Need::Required),
+    ("prefix", Need::Optional),
+    ("budget", Need::Optional),
+    ("limit", Need::Optional),
+];
+
+static IMAGE: [VerbOption; 5] = [
+    ("dna", Need::Required),
+    ("prefix", Need::Optional),
+    ("budget", Need::Optional),
+    ("limit", Need::Optional),
+    ("profile", Need::Optional),
+];
+
+static DRAW: [VerbOption; 2] = [("rna", Need::Required), ("profile", Need::Optional)];
+
+impl Verb {
+    /// The verb of this name.
+    pub(crate) fn of(word: &str) -> Option<Verb>
+        ensures { result ≡ verb_of word.now }
+    {
+        match word {
+            "rna" => Some(Verb::Rna),
+            "image" => Some(Verb::Image),
+            "dna" => Some(Verb::Dna),
+            "draw" => Some(Verb::Draw),
+            _ => None,
+        }
+    }
+
+    /// The options that the verb has.
+    pub(crate) fn options(self) -> &'static [VerbOption]
+        ensures { map option_of result.now ≡ options_of self }
+    {
+        match self {
+            Verb::Rna | Verb::Dna => RUN.as_slice(),
+            Verb::Image => IMAGE.as_slice(),
+            Verb::Draw => DRAW.as_slice(),
+        }
+    }
+}
