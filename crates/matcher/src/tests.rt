@@ -1,7 +1,7 @@
 ghost use Rattle.std.specs.Prelude.{◌≡◌, ◌<◌};
 
 use crate::{MatchEnd, match_at};
-use dna_items::{BIG, PatItem, PatList};
+use dna_items::{BIG, Balanced, PatItem, PatList};
 use fuun_base::{Base, BaseList, Steps, read_dna};
 use std::alloc::Global;
 use std::marker::Brand;
