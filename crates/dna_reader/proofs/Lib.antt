@@ -1,5 +1,5 @@
 pub mod Cutting
-pub mod Rows
+pub mod Worked
 pub mod NumeralLemmas
 pub mod ReadingLemmas
 pub mod ConstantLemmas

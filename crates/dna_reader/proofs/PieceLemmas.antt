@@ -20,7 +20,7 @@ use Rattle.dna_reader.specs.Piece.{Gives, GivesItem, GivesCommand, GivesEnd, Pie
 use Rattle.dna_reader.specs.Taking.{IsNumeralAt}
 use Rattle.dna_reader.specs.View.{View}
 use Rattle.dna_reader.specs.Window.{Shows}
-use Rattle.dna_reader.specs.Front.{unquoted, head_of}
+use Rattle.dna_reader.specs.Heads.{unquoted, head_of}
 use Rattle.dna_reader.specs.Given.{end_gives, held_gives, PieceIsRead}
 use Rattle.dna_reader.specs.declared.heads.Head.{Head}
 use Rattle.dna_reader.specs.declared.heads.Head.TheVariants.{Literal, Ip, If, Iip, Iic, Iii, Short}

@@ -7,7 +7,7 @@ use Rattle.dna_reader.specs.Piece.{Gives, GivesItem, GivesCommand, GivesEnd, Pie
 use Rattle.dna_reader.specs.Reading.{Table, open_after, is_end, item_of, command_of, Reading, Read, RanOut, ReadsFrom, rna_in}
 use Rattle.dna_reader.specs.ReadingLaws.{TakesWhatIsThere}
 use Rattle.dna_reader.specs.Taking.{RanOutTaking, StandsWithin}
-use Rattle.dna_reader.specs.Steps.{prefixed, PieceIsKept, StopsAtPiece, ReadSoFar}
+use Rattle.dna_reader.specs.PieceByPiece.{prefixed, PieceIsKept, StopsAtPiece, ReadSoFar}
 use Rattle.dna_reader.proofs.ReadingLemmas.{has_reading, reads_more, reads_end, reads_none}
 
 -- what stands in front of what stands in front

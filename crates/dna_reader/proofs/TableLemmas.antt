@@ -15,7 +15,7 @@ use Rattle.dna_items.specs.Balance.{stop_of, starts, stops, IsBalanced}
 use Rattle.dna_reader.specs.Numeral.{numeral}
 use Rattle.dna_reader.specs.Constants.{consts}
 use Rattle.dna_reader.specs.Piece.{Gives, GivesItem, GivesCommand, GivesEnd, Piece, pattern_piece, template_piece, reference}
-use Rattle.dna_reader.specs.Reading.{Cut, joined, open_after, EndsHere, is_ended, IsCutBy, item_of, items_of}
+use Rattle.dna_reader.specs.Reading.{Cut, joined, open_after, EndsHere, is_ended, AreCutBy, item_of, items_of}
 use Rattle.dna_reader.specs.Tables.{pattern_table, template_table}
 use Rattle.dna_reader.specs.ReadingLaws.{TakesWhatIsThere, PatternsAreBalanced}
 use Rattle.dna_reader.proofs.NumeralLemmas.{map_some, numeral_within}
@@ -145,14 +145,14 @@ front_step (GivesItem x) groups items stop fronts (suc n) = omega (arith, fronts
 front_step (GivesCommand c) groups items stop fronts n = fronts n
 front_step GivesEnd groups items stop fronts n = fronts n
 
-fronts_of : (groups : ℕ) (cuts : List (Cut PatItem)) (rest : List Base) → IsCutBy pattern_table groups cuts rest
+fronts_of : (groups : ℕ) (cuts : List (Cut PatItem)) (rest : List Base) → AreCutBy pattern_table groups cuts rest
     → (n : ℕ) → stops (take n (items_of cuts)) ≤ groups + starts (take n (items_of cuts))
 fronts_of groups [] rest is zero = omega arith
 fronts_of groups [] rest is (suc n) = omega arith
 fronts_of groups (cut ∷ cuts) rest is n =
     front_step cut.gives groups (items_of cuts)
-    (λ x gives. stop_is_open groups (joined (cut ∷ cuts) rest) (record { takes = length cut.bases; gives = cut.gives }) x is.1 gives)
-    (fronts_of (open_after pattern_table groups cut.gives) cuts rest is.3)
+    (λ x gives. stop_is_open groups (joined (cut ∷ cuts) rest) (record { takes = length cut.bases; gives = cut.gives }) x is.0.takes gives)
+    (fronts_of (open_after pattern_table groups cut.gives) cuts rest is.1)
     n
 
 even_step : (gives : Gives PatItem) (groups : ℕ) (items : List PatItem)
@@ -163,18 +163,18 @@ even_step (GivesItem x) groups items stop even = omega (arith, stop x refl)
 even_step (GivesCommand c) groups items stop even = even
 even_step GivesEnd groups items stop even = even
 
-even_of : (groups : ℕ) (cuts : List (Cut PatItem)) (rest : List Base) → IsCutBy pattern_table groups cuts rest → is_ended cuts ≡ true
+even_of : (groups : ℕ) (cuts : List (Cut PatItem)) (rest : List Base) → AreCutBy pattern_table groups cuts rest → is_ended cuts ≡ true
     → groups + starts (items_of cuts) ≡ stops (items_of cuts)
 even_of groups [] rest is ended = cc
 even_of groups (cut ∷ cuts) rest is ended =
     let piece : Piece PatItem = record { takes = length cut.bases; gives = cut.gives } in
     elim (end_cases cut.gives) [
       | inl more ↦
-          even_step cut.gives groups (items_of cuts) (λ x gives. stop_is_open groups (joined (cut ∷ cuts) rest) piece x is.1 gives)
-          (even_of (open_after pattern_table groups cut.gives) cuts rest is.3 (sym (is_ended_behind cut cuts more) ∙ ended))
+          even_step cut.gives groups (items_of cuts) (λ x gives. stop_is_open groups (joined (cut ∷ cuts) rest) piece x is.0.takes gives)
+          (even_of (open_after pattern_table groups cut.gives) cuts rest is.1 (sym (is_ended_behind cut cuts more) ∙ ended))
       | inr end ↦
-          let closed = end_is_closed groups (joined (cut ∷ cuts) rest) piece is.1 end in
-          let none : cuts ≡ [] = subst (λ (g : Gives PatItem). EndsHere g cuts) end is.2 in
+          let closed = end_is_closed groups (joined (cut ∷ cuts) rest) piece is.0.takes end in
+          let none : cuts ≡ [] = subst (λ (g : Gives PatItem). EndsHere g cuts) end is.0.last in
           rw end (rw none (omega arith))
     ]
 

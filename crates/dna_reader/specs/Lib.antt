@@ -8,8 +8,9 @@ pub mod ReadingLaws
 pub mod View
 pub mod Window
 pub mod Digits
-pub mod Front
+pub mod Heads
 pub mod Given
 pub mod Takers
-pub mod Steps
+pub mod PieceByPiece
 pub mod Errors
+pub mod Worked

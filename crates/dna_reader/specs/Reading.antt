@@ -42,14 +42,16 @@ is_ended [] = false
 is_ended (cut ∷ []) = is_end cut.gives
 is_ended (cut ∷ next ∷ cuts) = is_ended (next ∷ cuts)
 
--- each cut, of one base at least, is what the table takes from the DNA that starts there
-abbrev pub IsCutBy : {Item : Type 0} → Table Item → ℕ → List (Cut Item) → List Base → Type 0
-IsCutBy table groups [] rest = Unit {0}
-IsCutBy table groups (cut ∷ cuts) rest =
-    (0 < length cut.bases)
-    × (table.piece_of (nat_lt 0 groups) (joined (cut ∷ cuts) rest) ≡ Some (record { takes = length cut.bases; gives = cut.gives }))
-    × EndsHere cut.gives cuts
-    × IsCutBy table (open_after table groups cut.gives) cuts rest
+-- a cut before others, of one base at least, is what the table takes from the DNA that starts there
+pub record IsCutBy {Item : Type 0} (table : Table Item) (groups : ℕ) (cut : Cut Item) (cuts : List (Cut Item)) (rest : List Base) : Type 0 where
+  pub some : 0 < length cut.bases
+  pub takes : table.piece_of (nat_lt 0 groups) (joined (cut ∷ cuts) rest) ≡ Some (record { takes = length cut.bases; gives = cut.gives })
+  pub last : EndsHere cut.gives cuts
+
+-- each of the cuts is so, from the first on
+abbrev pub AreCutBy : {Item : Type 0} → Table Item → ℕ → List (Cut Item) → List Base → Type 0
+AreCutBy table groups [] rest = Unit {0}
+AreCutBy table groups (cut ∷ cuts) rest = IsCutBy table groups cut cuts rest × AreCutBy table (open_after table groups cut.gives) cuts rest
 
 -- how many groups are open after the cuts
 abbrev pub open_at_last : {Item : Type 0} → Table Item → ℕ → List (Cut Item) → ℕ
@@ -59,7 +61,7 @@ open_at_last table groups (cut ∷ cuts) = open_at_last table (open_after table 
 -- the cutting of d: it stops after the first end, or at the first rest that has no piece
 pub record IsCutting {Item : Type 0} (table : Table Item) (groups : ℕ) (d : List Base) (cuts : List (Cut Item)) (rest : List Base) : Type 0 where
   pub whole : joined cuts rest ≡ d
-  pub cut : IsCutBy table groups cuts rest
+  pub cut : AreCutBy table groups cuts rest
   pub stops : is_ended cuts ≡ false → table.piece_of (nat_lt 0 (open_at_last table groups cuts)) rest ≡ None
 
 -- the item that was given, if it was one
@@ -80,9 +82,9 @@ items_of [] = []
 items_of (cut ∷ cuts) = item_of cut.gives ++ items_of cuts
 
 -- the commands of the cuts, in their order
-abbrev pub rna_of : {Item : Type 0} → List (Cut Item) → List (List Base)
-rna_of [] = []
-rna_of (cut ∷ cuts) = command_of cut.gives ++ rna_of cuts
+abbrev pub commands_of : {Item : Type 0} → List (Cut Item) → List (List Base)
+commands_of [] = []
+commands_of (cut ∷ cuts) = command_of cut.gives ++ commands_of cuts
 
 -- what a reading comes to: items and RNA and the rest behind the end, or the RNA alone
 pub data Reading (Item : Type 0) : Type 0 where
@@ -91,8 +93,8 @@ pub data Reading (Item : Type 0) : Type 0 where
 
 -- what a cutting comes to
 abbrev pub reading_of : {Item : Type 0} → Bool → List (Cut Item) → List Base → Reading Item
-reading_of true cuts rest = Read (items_of cuts) (rna_of cuts) rest
-reading_of false cuts rest = RanOut (rna_of cuts)
+reading_of true cuts rest = Read (items_of cuts) (commands_of cuts) rest
+reading_of false cuts rest = RanOut (commands_of cuts)
 
 -- d, where so many groups are open, is read by the table as this
 abbrev pub ReadsFrom : {Item : Type 0} → Table Item → ℕ → List Base → Reading Item → Type 0

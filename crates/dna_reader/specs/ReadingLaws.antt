@@ -8,12 +8,22 @@ use Rattle.dna_items.specs.Balance.{IsBalanced}
 use Rattle.dna_reader.specs.Numeral.{numeral}
 use Rattle.dna_reader.specs.Constants.{IsConstants, consts}
 use Rattle.dna_reader.specs.Piece.{Piece}
-use Rattle.dna_reader.specs.Reading.{Table, Reading, Read, RanOut, ReadsFrom}
+use Rattle.dna_reader.specs.Reading.{Table, Cut, IsCutting, Reading, Read, RanOut, ReadsFrom}
 use Rattle.dna_reader.specs.Tables.{ReadsPattern}
 
 -- each piece of the table takes one base at least, and none that is not there
 pub record TakesWhatIsThere {Item : Type 0} (table : Table Item) : Type 0 where
   pub takes : (is_open : Bool) (d : List Base) (p : Piece Item) → table.piece_of is_open d ≡ Some p → (0 < p.takes) × (p.takes ≤ length d)
+
+-- each DNA has a cutting
+abbrev pub HasCutting : {Item : Type 0} → Table Item → Type 0
+HasCutting {Item} table = (groups : ℕ) (d : List Base) → (cuts : List (Cut Item)) × (rest : List Base) × IsCutting table groups d cuts rest
+
+-- and it has only one, with one rest, whether it comes to an end or runs out
+abbrev pub HasOneCutting : {Item : Type 0} → Table Item → Type 0
+HasOneCutting {Item} table =
+    (groups : ℕ) (d : List Base) (a b : List (Cut Item)) (r s : List Base)
+    → IsCutting table groups d a r → IsCutting table groups d b s → (a ≡ b) × (r ≡ s)
 
 -- each DNA has a reading
 abbrev pub HasReading : {Item : Type 0} → Table Item → Type 0

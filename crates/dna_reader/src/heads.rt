@@ -1,6 +1,6 @@
 // What the bases ahead begin with.
 ghost use Rattle.std.specs.Prelude.{◌≡◌};
-ghost use Rattle.dna_reader.specs.Front.{unquoted, head_of};
+ghost use Rattle.dna_reader.specs.Heads.{unquoted, head_of};
 
 use fuun_base::Base;
 

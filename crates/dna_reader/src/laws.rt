@@ -1,15 +1,20 @@
 //! What holds of the definitions. Each call does nothing: its clause is the law.
-ghost use Rattle.dna_reader.specs.ReadingLaws.{HasReading, HasOneReading, HasShortReadings, HasShortRna, PatternsAreBalanced, ConstantsAreLongest, ConstantsAreOne, NumeralByDigits};
+ghost use Rattle.dna_reader.specs.ReadingLaws.{HasCutting, HasOneCutting, HasReading, HasOneReading, HasShortReadings, HasShortRna, PatternsAreBalanced, ConstantsAreLongest, ConstantsAreOne, NumeralByDigits};
 ghost use Rattle.dna_reader.specs.Tables.{pattern_table, template_table};
+ghost use Rattle.dna_reader.specs.Worked.{PatternWorked, TemplateWorked, SearchWorked, CommandWorked, ShortCommandWorked, NoNumeralWorked, OpenGroupWorked};
 
-/// Each DNA is read as a pattern in exactly one way.
+/// Each DNA is cut into pieces of a pattern, and so read as one, in exactly one way.
 pub fn one_pattern()
+    ensures cut { HasCutting pattern_table }
+    ensures cut_once { HasOneCutting pattern_table }
     ensures read { HasReading pattern_table }
     ensures once { HasOneReading pattern_table }
 {}
 
-/// Each DNA is read as a template in exactly one way.
+/// Each DNA is cut into pieces of a template, and so read as one, in exactly one way.
 pub fn one_template()
+    ensures cut { HasCutting template_table }
+    ensures cut_once { HasOneCutting template_table }
     ensures read { HasReading template_table }
     ensures once { HasOneReading template_table }
 {}
@@ -36,4 +41,15 @@ pub fn longest_constants()
 /// A numeral, digit by digit.
 pub fn numeral_by_digits()
     ensures { NumeralByDigits }
+{}
+
+/// Readings worked by hand: a pattern, a template, a search, commands, and what runs out.
+pub fn readings_worked()
+    ensures pattern { PatternWorked }
+    ensures template { TemplateWorked }
+    ensures search { SearchWorked }
+    ensures command { CommandWorked }
+    ensures short_command { ShortCommandWorked }
+    ensures no_numeral { NoNumeralWorked }
+    ensures open_group { OpenGroupWorked }
 {}

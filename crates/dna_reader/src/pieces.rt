@@ -2,7 +2,7 @@
 ghost use Rattle.std.specs.Prelude.{◌≡◌, ◌+◌, ◌≤◌, Bool, List, take, drop, length, IfOk, MatchOption, min};
 ghost use Rattle.fuun_base.specs.declared.letters.Base.{Base};
 ghost use Rattle.dna_items.specs.Held.{held_pattern_item, held_template_item};
-ghost use Rattle.dna_reader.specs.Front.{head_of, letters_of};
+ghost use Rattle.dna_reader.specs.Heads.{head_of, letters_of};
 ghost use Rattle.dna_reader.specs.Given.{end_gives, pattern_gives, template_gives, PieceIsRead};
 ghost use Rattle.dna_reader.specs.Piece.{pattern_piece, template_piece, reference};
 ghost use Rattle.dna_reader.specs.Window.{Shows};

@@ -2,7 +2,7 @@ ghost use Rattle.std.specs.Prelude.{◌≡◌, ◌≢◌, ◌+◌, ◌-◌, ◌^
 ghost use Rattle.dna_items.specs.Balance.{IsBalanced, start_of, stop_of};
 ghost use Rattle.dna_items.specs.Held.{held_pattern_item, held_template_item};
 ghost use Rattle.dna_reader.specs.Piece.{pattern_piece, template_piece};
-ghost use Rattle.dna_reader.specs.Steps.{PieceIsKept, StopsAtPiece};
+ghost use Rattle.dna_reader.specs.PieceByPiece.{PieceIsKept, StopsAtPiece};
 ghost use Rattle.dna_reader.specs.Window.{Shows};
 ghost use Rattle.dna_reader.specs.Tables.{pattern_table, template_table, ReadsPattern, ReadsTemplate};
 ghost use Rattle.dna_reader.specs.Taking.{PatternIsRead, TemplateIsRead, RanOutTaking, StandsWithin};

@@ -4,3 +4,6 @@ pub mod Ranges
 pub mod OpenGroups
 pub mod Runs
 pub mod Reached
+pub mod Matches
+pub mod Grouping
+pub mod Worked

@@ -3,3 +3,4 @@ pub mod Groups
 pub mod Found
 pub mod Step
 pub mod Laws
+pub mod Worked

@@ -1,5 +1,5 @@
 use Rattle.std.proofs.Common.{◌≡◌, ◌+◌, Some, length, drop, ◌∙◌}
-use Rattle.dna_reader.specs.Front.{unquoted}
+use Rattle.dna_reader.specs.Heads.{unquoted}
 use Rattle.dna_reader.proofs.PieceLemmas.{constants_step}
 use Rattle.dna_reader.proofs.numerals.constants_ahead.Goals as goal
 

@@ -1,6 +1,6 @@
 use Rattle.std.proofs.Common.{◌≡◌, ◌-◌, length}
 use Rattle.dna_items.specs.Held.{held_pattern_item}
-use Rattle.dna_reader.specs.Steps.{ReadSoFar}
+use Rattle.dna_reader.specs.PieceByPiece.{ReadSoFar}
 use Rattle.dna_reader.specs.Tables.{pattern_table}
 use Rattle.dna_reader.specs.Window.{Shows}
 use Rattle.dna_reader.proofs.reading.read_pattern.Given as goal

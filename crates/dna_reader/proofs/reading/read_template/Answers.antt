@@ -3,7 +3,7 @@ use Rattle.std.proofs.lemmas.Result.{err_from_is_err_and}
 use Rattle.dna_items.specs.Held.{held_template_item}
 use Rattle.dna_reader.specs.declared.reading.ReadingError.{ReadingError}
 use Rattle.dna_reader.specs.declared.reading.ReadingError.TheVariants.{RanOut}
-use Rattle.dna_reader.specs.Steps.{PieceIsKept}
+use Rattle.dna_reader.specs.PieceByPiece.{PieceIsKept}
 use Rattle.dna_reader.specs.Tables.{template_table}
 use Rattle.dna_reader.proofs.TableLemmas.{template_fits}
 use Rattle.dna_reader.proofs.EndLemmas.{template_few}

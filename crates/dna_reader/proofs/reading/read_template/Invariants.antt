@@ -1,6 +1,6 @@
 use Rattle.std.proofs.Common.{◌≡◌, ◌-◌, length}
 use Rattle.dna_items.specs.Held.{held_template_item}
-use Rattle.dna_reader.specs.Steps.{ReadSoFar}
+use Rattle.dna_reader.specs.PieceByPiece.{ReadSoFar}
 use Rattle.dna_reader.specs.Tables.{template_table}
 use Rattle.dna_reader.specs.Window.{Shows}
 use Rattle.dna_reader.proofs.reading.read_template.Given as goal

@@ -1,5 +1,9 @@
-use Rattle.matcher.proofs.OpenGroups.{one_list_of_groups}
+use Rattle.matcher.proofs.Grouping.{groups_exist}
+use Rattle.matcher.proofs.OpenGroups as lemmas
 use Rattle.matcher.proofs.laws.one_list_of_groups.Goals as goal
 
-pub returns : goal.returns
-returns c = one_list_of_groups
+pub returns-clause-has : goal.returns-clause-has
+returns-clause-has c = groups_exist
+
+pub returns-clause-once : goal.returns-clause-once
+returns-clause-once c = lemmas.one_list_of_groups
