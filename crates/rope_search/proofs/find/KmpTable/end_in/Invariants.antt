@@ -1,0 +1,13 @@
+use Rattle.std.proofs.Common.{◌-◌, ◌<◌, ◌≤◌, length}
+use Rattle.rope_search.specs.Sought.{Goes}
+use Rattle.rope_search.proofs.find.KmpTable.end_in.Given as goal
+
+abbrev pub invariant-loop-at : goal.invariant-loop-at
+invariant-loop-at l = record {
+  short : l.found < length l.self;
+  most : l.at ≤ length l.bases;
+  goes : Goes l.self l.bases 0 l.initial.found l.at l.found;
+}
+
+abbrev pub decreases-loop-at : goal.decreases-loop-at
+decreases-loop-at l = length l.bases - l.at

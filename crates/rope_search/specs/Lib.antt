@@ -1,0 +1,4 @@
+pub mod Automaton
+pub mod Sought
+pub mod Table
+pub mod Worked

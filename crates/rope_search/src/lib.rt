@@ -1,0 +1,10 @@
+//! Search in ropes: the least place where a needle stands, however the bases are cut into leaves.
+#![tactic(auto)]
+
+mod filter;
+mod find;
+mod rows;
+#[cfg(test)]
+mod tests;
+
+pub use find::KmpTable;
