@@ -5,5 +5,5 @@ pub mod Runs
 pub mod HeldItems
 pub mod Lifting
 pub mod Parts
-pub mod RunSteps
+pub mod AttemptByAttempt
 pub mod Worked

@@ -16,7 +16,7 @@ use Rattle.replacer.specs.Replacement.{replaced}
 use Rattle.exec_loop.specs.declared.machine.Outcome.{Outcome}
 use Rattle.exec_loop.specs.declared.machine.Outcome.TheVariants as outcome
 use Rattle.exec_loop.specs.Attempt.{Ending, Matched, NoMatch, TooLong, Finished, Attempt, ReadsBoth, Rewrites, EndsBy, IsAttempt, next_dna}
-use Rattle.exec_loop.specs.Steps.{outcome_of, dna_behind}
+use Rattle.exec_loop.specs.Made.{outcome_of, dna_behind}
 use Rattle.exec_loop.specs.Rewriting.{ReplacesAt, ComesTo}
 use Rattle.exec_loop.proofs.HeldItems.{match_held, none_held, groups_held, IsAlike, replaced_alike, replaced_moved}
 

@@ -18,7 +18,7 @@ use Rattle.exec_loop.specs.declared.machine.Report.{Report}
 use Rattle.exec_loop.specs.declared.machine.StepError.{StepError}
 use Rattle.exec_loop.specs.Attempt.{Finished}
 use Rattle.exec_loop.specs.State.{State, IsLimited}
-use Rattle.exec_loop.specs.Steps.{MakesAttempt, StandsWithinAttempt}
+use Rattle.exec_loop.specs.Made.{MakesAttempt, StandsWithinAttempt}
 use Rattle.exec_loop.specs.Readings.{BothAreRead, OneRanOut}
 use Rattle.exec_loop.specs.Rewriting.{ReplacesAt, ComesTo, ComesToState}
 use Rattle.exec_loop.proofs.Attempts.{AttemptWith, AttemptOf, attempt_of_pattern, attempt_of_template, attempt_read}

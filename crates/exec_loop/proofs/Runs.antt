@@ -116,6 +116,8 @@ run_behind d budget limit attempt next run is goes x = runs_behind d budget limi
 pub record RunWith (d : List Base) (budget limit : ℕ) (attempt : Attempt) : Type 0 where
   pub run : Run
   pub is : IsRun d budget limit run
+  pub left : List Attempt
+  pub first : run.attempts ≡ attempt ∷ left
   pub more : List (List Base)
   pub begins : run.rna ≡ attempt.rna ++ more
 
@@ -124,6 +126,8 @@ unfolding stopped behind
 run_by d budget limit attempt None is none runs = record {
   run = stopped d attempt;
   is = run_stopped d budget limit attempt is none;
+  left = [];
+  first = refl;
   more = [];
   begins = refl;
 }
@@ -132,6 +136,8 @@ run_by d budget limit attempt (Some next) is goes runs =
     record {
       run = behind attempt rest.0;
       is = run_behind d budget limit attempt next rest.0 is goes rest.1;
+      left = rest.0.attempts;
+      first = refl;
       more = rest.0.rna;
       begins = refl;
     }

@@ -1,7 +1,7 @@
 pub mod Attempt
 pub mod Run
 pub mod State
-pub mod Steps
+pub mod Made
 pub mod Laws
 pub mod Readings
 pub mod Rewriting

@@ -2,7 +2,7 @@ ghost use Rattle.std.specs.Prelude.{◌≡◌, ◌≢◌, ℕ, ◌+◌, ◌*◌,
 ghost use Rattle.dna_items.specs.Balance.{IsBalanced};
 ghost use Rattle.exec_loop.specs.Readings.{BothAreRead, OneRanOut};
 ghost use Rattle.exec_loop.specs.State.{State};
-ghost use Rattle.exec_loop.specs.Steps.{StandsWithinAttempt};
+ghost use Rattle.exec_loop.specs.Made.{StandsWithinAttempt};
 ghost use Rattle.fuun_io.specs.Counts.{Rose};
 
 use dna_items::{PatList, TplList};

@@ -1,7 +1,7 @@
 ghost use Rattle.std.specs.Prelude.{◌≡◌, ◌≢◌, ◌^◌, ◌<◌, ◌≤◌, IfOk, OnErr};
 ghost use Rattle.exec_loop.specs.State.{IsLimited};
 ghost use Rattle.exec_loop.specs.RunEnds.{run_end};
-ghost use Rattle.exec_loop.specs.Steps.{MakesRun, BreaksOff};
+ghost use Rattle.exec_loop.specs.Made.{MakesRun, BreaksOff, TakesForRun};
 ghost use Rattle.fuun_io.specs.Counts.{Rose};
 
 use crate::{Machine, Outcome, RunEnd, StepError};
@@ -25,9 +25,10 @@ impl<S: Strand> Machine<S> {
         ensures limit { self.new.limit ≡ self.old.limit }
         ensures limited { IsLimited self.new }
 
-        ensures part { OnErr result (BreaksOff T.within rna.old rna.new self.old self.new budget) }
+        ensures part { OnErr result (BreaksOff T.follows T.within rna.old rna.new self.old self.new budget) }
         ensures failed { result ≡ Err StepError.TakerFailed → Rose (T.faults rna.old) (T.faults rna.new) }
         ensures no_fault { result ≢ Err StepError.TakerFailed → T.faults rna.new ≡ T.faults rna.old }
+        ensures most { TakesForRun budget self.old (T.taken rna.old) (T.taken rna.new) }
     {
         let _limit = self.limit();
         for attempt in 0..budget {

@@ -2,7 +2,7 @@ ghost use Rattle.std.specs.Prelude.{◌≡◌, ◌≢◌, ◌+◌, ◌^◌, ◌�
 ghost use Rattle.dna_items.specs.Balance.{IsBalanced};
 ghost use Rattle.exec_loop.specs.Rewriting.{ComesToState};
 ghost use Rattle.exec_loop.specs.State.{IsLimited};
-ghost use Rattle.exec_loop.specs.Steps.{MakesAttempt, StandsWithinAttempt};
+ghost use Rattle.exec_loop.specs.Made.{MakesAttempt, StandsWithinAttempt};
 ghost use Rattle.fuun_io.specs.Counts.{Rose};
 
 use crate::readings::{Items, read_both};

@@ -1,2 +1,4 @@
 pub mod Replacement
+pub mod Weight
+pub mod Costs
 pub mod Worked

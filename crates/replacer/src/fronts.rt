@@ -1,7 +1,10 @@
-ghost use Rattle.std.specs.Prelude.{◌≡◌, ◌+◌, ◌≤◌, ◌^◌, ◌∷◌, [], ◌++◌, length, slice_range, All, IfOk};
+ghost use Rattle.std.specs.Prelude.{◌≡◌, ℕ, ◌+◌, ◌*◌, ◌≤◌, ◌^◌, ◌∷◌, [], ◌++◌, length, slice_range, All, IfOk};
 ghost use Rattle.fuun_base.specs.Quote.{asnat, protect};
+ghost use Rattle.fuun_base.specs.Ticks.{Ticks};
 ghost use Rattle.matcher.specs.Found.{LiesWithin};
+ghost use Rattle.replacer.specs.Costs.{put_cost, item_cost};
 ghost use Rattle.replacer.specs.Replacement.{put_by, texts_of};
+ghost use Rattle.replacer.specs.Weight.{quoted_at};
 
 use crate::ranges::range_of;
 use dna_items::TplItem;
@@ -20,7 +23,9 @@ pub(crate) struct Front<S: Strand> {
 
 impl<S: Strand> Front<S> {
     pub(crate) fn new(alloc: Global) -> Self
-        ensures { S.bases result.done ++ result.waiting.items ≡ [] }
+        ensures bases { S.bases result.done ++ result.waiting.items ≡ [] }
+        ensures none { result.waiting.items ≡ [] }
+        ensures height { (most : ℕ) → S.height result.done ≤ S.height_bound most }
     {
         Front {
             done: S::empty(alloc),
@@ -28,7 +33,7 @@ impl<S: Strand> Front<S> {
         }
     }
 
-    // What the item puts comes behind what stands.
+    // What the item puts comes behind what stands. For each base that waits two steps are set aside, for the next build.
     pub(crate) fn put<L: Ledger>(
         self,
         alloc: Global,
@@ -37,11 +42,21 @@ impl<S: Strand> Front<S> {
         item: &TplItem,
         steps: &mut Steps<L>,
     ) -> Result<Self, NoMemory>
+        ghost most: { ℕ }
         requires groups { All (LiesWithin (length (S.bases s.now))) groups.now }
         requires small { length (S.bases self.done ++ self.waiting.items)
             + length (put_by (texts_of (S.bases s.now) groups.now) item.now) ≤ 2 ^ 40 }
-        ensures { IfOk result (λ front. S.bases front.done ++ front.waiting.items
+        requires within { length (S.bases self.done ++ self.waiting.items)
+            + length (put_by (texts_of (S.bases s.now) groups.now) item.now) ≤ most }
+        requires done { S.height self.done ≤ S.height_bound most }
+        requires strand { S.height s.now ≤ S.height_bound most }
+        ensures bases { IfOk result (λ front. S.bases front.done ++ front.waiting.items
             ≡ (S.bases self.done ++ self.waiting.items) ++ put_by (texts_of (S.bases s.now) groups.now) item.now) }
+        ensures height { IfOk result (λ front. S.height front.done ≤ S.height_bound most) }
+        ensures ticks { Ticks steps.old steps.new
+            (2 * length self.waiting.items + item_cost (S.height_bound most) (texts_of (S.bases s.now) groups.now) item.now) }
+        ensures paid { IfOk result (λ front. steps.new + 2 * length front.waiting.items
+            ≤ steps.old + (2 * length self.waiting.items + item_cost (S.height_bound most) (texts_of (S.bases s.now) groups.now) item.now)) }
     {
         match *item {
             TplItem::Base(base) => self.put_base(base),
@@ -57,8 +72,10 @@ impl<S: Strand> Front<S> {
     }
 
     fn put_base(self, base: Base) -> Result<Self, NoMemory>
-        ensures { IfOk result (λ front. S.bases front.done ++ front.waiting.items
+        ensures bases { IfOk result (λ front. S.bases front.done ++ front.waiting.items
             ≡ (S.bases self.done ++ self.waiting.items) ++ base ∷ []) }
+        ensures done { IfOk result (λ front. front.done ≡ self.done) }
+        ensures waiting { IfOk result (λ front. length front.waiting.items ≡ length self.waiting.items + 1) }
     {
         let mut front = self;
         front.waiting.push(base)?;
@@ -67,8 +84,10 @@ impl<S: Strand> Front<S> {
 
     fn put_len(self, s: &S, range: (u64, u64)) -> Result<Self, NoMemory>
         requires { LiesWithin (length (S.bases s.now)) range }
-        ensures { IfOk result (λ front. S.bases front.done ++ front.waiting.items
+        ensures bases { IfOk result (λ front. S.bases front.done ++ front.waiting.items
             ≡ (S.bases self.done ++ self.waiting.items) ++ asnat (length (slice_range (S.bases s.now) range.0 range.1))) }
+        ensures done { IfOk result (λ front. front.done ≡ self.done) }
+        ensures waiting { IfOk result (λ front. length front.waiting.items ≤ length self.waiting.items + 65) }
     {
         let (lo, hi) = range;
         let mut front = self;
@@ -84,11 +103,21 @@ impl<S: Strand> Front<S> {
         level: u64,
         steps: &mut Steps<L>,
     ) -> Result<Self, NoMemory>
+        ghost most: { ℕ }
         requires range { LiesWithin (length (S.bases s.now)) range }
         requires small { length (S.bases self.done ++ self.waiting.items)
             + length (protect level (slice_range (S.bases s.now) range.0 range.1)) ≤ 2 ^ 40 }
-        ensures { IfOk result (λ front. S.bases front.done ++ front.waiting.items
+        requires within { length (S.bases self.done ++ self.waiting.items)
+            + length (protect level (slice_range (S.bases s.now) range.0 range.1)) ≤ most }
+        requires done { S.height self.done ≤ S.height_bound most }
+        requires strand { S.height s.now ≤ S.height_bound most }
+        ensures bases { IfOk result (λ front. S.bases front.done ++ front.waiting.items
             ≡ (S.bases self.done ++ self.waiting.items) ++ protect level (slice_range (S.bases s.now) range.0 range.1)) }
+        ensures height { IfOk result (λ front. S.height front.done ≤ S.height_bound most) }
+        ensures ticks { Ticks steps.old steps.new
+            (2 * length self.waiting.items + put_cost (S.height_bound most) (quoted_at level (slice_range (S.bases s.now) range.0 range.1))) }
+        ensures paid { IfOk result (λ front. steps.new + 2 * length front.waiting.items
+            ≤ steps.old + (2 * length self.waiting.items + put_cost (S.height_bound most) (quoted_at level (slice_range (S.bases s.now) range.0 range.1)))) }
     {
         let (lo, hi) = range;
         if lo == hi {
@@ -108,8 +137,13 @@ impl<S: Strand> Front<S> {
         alloc: Global,
         steps: &mut Steps<L>,
     ) -> Result<S, NoMemory>
-        requires { length (S.bases self.done ++ self.waiting.items) ≤ 2 ^ 40 }
-        ensures { IfOk result (λ strand. S.bases strand ≡ S.bases self.done ++ self.waiting.items) }
+        ghost most: { ℕ }
+        requires small { length (S.bases self.done ++ self.waiting.items) ≤ 2 ^ 40 }
+        requires within { length (S.bases self.done ++ self.waiting.items) ≤ most }
+        requires done { S.height self.done ≤ S.height_bound most }
+        ensures bases { IfOk result (λ strand. S.bases strand ≡ S.bases self.done ++ self.waiting.items) }
+        ensures height { IfOk result (λ strand. S.height strand ≤ S.height_bound most) }
+        ensures ticks { Ticks steps.old steps.new (2 * length self.waiting.items + 3 * (S.height_bound most + 1)) }
     {
         if self.waiting.len() == 0 {
             return Ok(self.done);

@@ -1,6 +1,9 @@
-ghost use Rattle.std.specs.Prelude.{◌≡◌, ◌≤◌, ◌^◌, length, All, IfOk};
+ghost use Rattle.std.specs.Prelude.{◌≡◌, ℕ, ◌+◌, ◌*◌, ◌≤◌, ◌^◌, length, All, IfOk};
+ghost use Rattle.fuun_base.specs.Ticks.{Ticks};
 ghost use Rattle.matcher.specs.Found.{LiesWithin};
+ghost use Rattle.replacer.specs.Costs.{cost};
 ghost use Rattle.replacer.specs.Replacement.{replacement, texts_of, replaced};
+ghost use Rattle.replacer.specs.Weight.{quoted_bases, weight_but_a_cut};
 
 use crate::fronts::Front;
 use dna_items::TplList;
@@ -25,7 +28,11 @@ pub fn replace<S: Strand, L: Ledger>(
     ensures bases { IfOk result (λ dna. S.bases dna ≡ replaced (S.bases s.now) tpl.now groups.now stop) }
     ensures length { IfOk result (λ dna. length (S.bases dna) ≤ 2 ^ 40) }
     ensures height { IfOk result (λ dna. S.height dna ≤ S.height_bound (length (S.bases dna))) }
+    ensures ticks { (most : ℕ) → length (S.bases s.now) ≤ most → length (replaced (S.bases s.now) tpl.now groups.now stop) ≤ most →
+        Ticks steps.old steps.new
+        (weight_but_a_cut (length tpl.now) (quoted_bases (texts_of (S.bases s.now) groups.now) tpl.now) (S.height_bound most)) }
 {
+    let _len = s.len();
     let put = put_all(alloc, s, tpl, groups, steps)?;
     let rest = s.sub(stop, s.len(), steps)?;
     S::join(&put, &rest, steps)
@@ -39,9 +46,15 @@ fn put_all<S: Strand, L: Ledger>(
     groups: &GroupList,
     steps: &mut Steps<L>,
 ) -> Result<S, NoMemory>
+    ghost most: { ℕ }
     requires groups { All (LiesWithin (length (S.bases s.now))) groups.now }
     requires small { length (replacement (texts_of (S.bases s.now) groups.now) tpl.now) ≤ 2 ^ 40 }
-    ensures { IfOk result (λ dna. S.bases dna ≡ replacement (texts_of (S.bases s.now) groups.now) tpl.now) }
+    requires within { length (replacement (texts_of (S.bases s.now) groups.now) tpl.now) ≤ most }
+    requires strand { S.height s.now ≤ S.height_bound most }
+    ensures bases { IfOk result (λ dna. S.bases dna ≡ replacement (texts_of (S.bases s.now) groups.now) tpl.now) }
+    ensures height { IfOk result (λ dna. S.height dna ≤ S.height_bound most) }
+    ensures ticks { Ticks steps.old steps.new
+        (cost (S.height_bound most) (texts_of (S.bases s.now) groups.now) tpl.now + 3 * (S.height_bound most + 1)) }
 {
     let mut front = Front::new(alloc);
     for item in tpl.as_slice() {

@@ -1,4 +1,4 @@
-use Rattle.exec_loop.proofs.RunSteps.{IsMade}
+use Rattle.exec_loop.proofs.AttemptByAttempt.{IsMade}
 use Rattle.exec_loop.proofs.state.Machine.run.Given as goal
 
 abbrev pub invariant-loop-attempt : goal.invariant-loop-attempt

@@ -1,5 +1,5 @@
--- What one attempt and a run leave.
-use Rattle.std.specs.Prelude.{◌≡◌, ℕ, List, ◌++◌}
+-- What one attempt leaves that was made, and what a run leaves.
+use Rattle.std.specs.Prelude.{◌≡◌, ℕ, ◌+◌, ◌*◌, ◌^◌, ◌<◌, ◌≤◌, List, ◌∷◌, ◌++◌, length}
 use Rattle.fuun_base.specs.declared.letters.Base.{Base}
 use Rattle.dna_items.specs.Held.{held_pattern, held_template}
 use Rattle.exec_loop.specs.declared.machine.Outcome.{Outcome}
@@ -7,7 +7,7 @@ use Rattle.exec_loop.specs.declared.machine.Outcome.TheVariants as outcome
 use Rattle.exec_loop.specs.declared.machine.Report.{Report}
 use Rattle.exec_loop.specs.declared.machine.RunEnd.{RunEnd}
 use Rattle.exec_loop.specs.Attempt.{Attempt, Ending, Matched, NoMatch, TooLong, Finished, IsAttempt}
-use Rattle.exec_loop.specs.Run.{Run, IsRun, Leads}
+use Rattle.exec_loop.specs.Run.{Run, IsRun, Leads, rna_of}
 use Rattle.exec_loop.specs.State.{State}
 
 -- the outcome that is reported of an ending
@@ -48,12 +48,22 @@ pub record MakesRun {Taker : Type 0} (follows : Taker → List (List Base) → T
   pub dna : run.dna ≡ new.dna
   pub taken : follows old_taker run.rna new_taker
 
--- the run broke off before an attempt: the DNA is the one before it, and the taker stands within the RNA of the run
-pub record BreaksOff {Taker : Type 0} (within : Taker → List (List Base) → Taker → Type 0) (old_taker new_taker : Taker) (old new : State) (budget : ℕ) : Type 0 where
+-- the run broke off in the attempt behind those that were made: the DNA is the one before it,
+-- and the taker has exactly the RNA of those made, and then stands within that of this attempt, and so within that of the run
+pub record BreaksOff {Taker : Type 0} (follows within : Taker → List (List Base) → Taker → Type 0) (old_taker new_taker : Taker) (old new : State) (budget : ℕ) : Type 0 where
+  pub made : List Attempt
+  pub allowed : length made < budget
+  pub leads : Leads old.limit old.dna made new.dna
+  pub middle : Taker
+  pub gave : follows old_taker (rna_of made) middle
+  pub part : StandsWithinAttempt within middle new_taker new
   pub run : Run
   pub is : IsRun old.dna budget old.limit run
-  pub made : List Attempt
   pub left : List Attempt
-  pub front : run.attempts ≡ made ++ left
-  pub leads : Leads old.limit old.dna made new.dna
+  pub front : run.attempts ≡ made ++ part.attempt ∷ left
   pub stands : within old_taker run.rna new_taker
+
+-- a bound on what was taken: so many commands, at most, for each attempt of the run
+abbrev pub TakesForRun : ℕ → State → ℕ → ℕ → Type 0
+TakesForRun budget old old_taken new_taken =
+    (run : Run) → IsRun old.dna budget old.limit run → new_taken ≤ old_taken + 2 ^ 41 * length run.attempts
