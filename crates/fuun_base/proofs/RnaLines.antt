@@ -1,12 +1,14 @@
 -- What an RNA file's bytes say, line by line, and a line's bytes, byte by byte.
-use Rattle.std.proofs.Common.{◌≡◌, ℕ, suc, ◌+◌, ◌<◌, ◌≤◌, Bool, true, false, List, [], ◌∷◌, ◌++◌, Some, None, length, take, drop, set, get_or, arith, refl, sym, ap, ◌∙◌, add-one, append_assoc, append-nil, length-append, drop-cons, map}
-use Rattle.std.specs.Prelude.{◌==◌, ◌&&◌, nat_lt, not, position, unwrap_or}
+use Rattle.std.proofs.Common.{◌≡◌, ℕ, suc, ◌+◌, ◌<◌, ◌≤◌, Bool, true, false, List, [], ◌∷◌, ◌++◌, Option, Some, None, length, take, drop, set, get_or, arith, refl, sym, ap, ◌∙◌, add-one, append_assoc, append-nil, length-append, drop-cons, map}
+use Rattle.std.specs.Prelude.{MatchOption, ◌==◌, ◌&&◌, nat_lt, not, position, unwrap_or}
 use Rattle.std.specs.List.{list_all, position_from, position_or_len}
+use Rattle.std.proofs.Math.Seq.{take-append_seam}
 use Rattle.std.proofs.lemmas.Bool.{lt-leb, le-leb, ltb-false}
-use Rattle.std.proofs.lemmas.List.Sums.{prefix_len-le-length}
+use Rattle.std.proofs.lemmas.List.Sums.{prefix_len-le-length, AllPass-from_list_all, list_all-from_AllPass}
 use Rattle.std.proofs.lemmas.List.{drop_all, take_more_set}
 use Rattle.fuun_base.specs.declared.letters.Base.{Base}
-use Rattle.fuun_base.specs.Letter.{base_of, is_blank}
+use Rattle.fuun_base.specs.Letter.{base_of, is_letter, is_blank}
+use Rattle.fuun_base.proofs.Reading.{length-bases_le}
 use Rattle.fuun_base.specs.RnaFile.{before_lines, command_of, commands, first_bad, is_allowed, is_command, lines}
 
 -- a byte is a line feed
@@ -129,3 +131,21 @@ pub blank_allowed : (byte : ℕ) (blank : Bool) → base_of byte ≡ None → bl
 blank_allowed byte blank is blank_is allowed =
     let here : is_blank byte ≡ true = sym blank_is ∙ allowed in
     rw is here
+
+-- letters alone are allowed, each is one base
+allowed_of_letters : (line : List ℕ) → list_all is_letter line ≡ true → list_all is_allowed line ≡ true
+allowed_of_letters line letters =
+    list_all-from_AllPass is_allowed line (λ k d lt. let here : is_letter (get_or line k d) ≡ true = AllPass-from_list_all is_letter line letters k d lt in rw here refl)
+
+pub command_of_letters : (line : List ℕ) → length line ≤ 7 → list_all is_letter line ≡ true → is_command line ≡ true
+command_of_letters line few letters =
+    let short : length (command_of line) ≤ 7 = omega (arith, length-bases_le line) in
+    rw (allowed_of_letters line letters, le-leb (length (command_of line)) 7 short) refl
+
+pub at_seam : (front rest : List Base) (n : ℕ) → length front ≡ n → take n (front ++ rest) ≡ front
+at_seam front rest n long = ap (λ k. take k (front ++ rest)) (sym long) ∙ take-append_seam front rest
+
+pub read_letters : (line : List ℕ) (places : List Base) (read : Option (List Base)) → length line ≤ 7 → list_all is_letter line ≡ true → places ≡ command_of line → MatchOption read (7 < length places) (λ command. (command ≡ places) × (length places ≤ 7)) → MatchOption read (is_command line ≡ false) (λ command. (command ≡ command_of line) × (is_command line ≡ true))
+read_letters line places None few letters are read =
+    absurd (omega (arith, length-bases_le line, ap length are))
+read_letters line places (Some command) few letters are read = (read.0 ∙ are, command_of_letters line few letters)

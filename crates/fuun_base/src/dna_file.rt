@@ -94,7 +94,8 @@ fn put_letters(block: &[u8], list: &mut Vec<Base>) -> Result<usize, NoMemory>
     Ok(block.len())
 }
 
-fn fill_letters(block: &[u8], slots: &mut [Base])
+// Writes the base of each letter.
+pub(crate) fn fill_letters(block: &[u8], slots: &mut [Base])
     requires letters { IsTrue (list_all is_letter block.now) }
     requires len { length slots.old ≡ length block.now }
     ensures { slots.new ≡ bases block.now }
@@ -120,7 +121,7 @@ fn base_at(letter: u8) -> Base
     }
 }
 
-fn are_letters(block: &[u8]) -> bool
+pub(crate) fn are_letters(block: &[u8]) -> bool
     ensures { result ≡ list_all is_letter block.now }
 {
     let mut all = true;

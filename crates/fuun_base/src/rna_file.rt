@@ -1,7 +1,10 @@
-ghost use Rattle.std.specs.Prelude.{◌≡◌, ℕ, ◌+◌, ◌≤◌, ◌==◌, false, true, drop, length, position, unwrap_or, IfOk, MatchOption, OnOk};
+ghost use Rattle.std.specs.Prelude.{◌≡◌, ℕ, ◌+◌, ◌≤◌, ◌==◌, false, true, drop, length, position, unwrap_or, IfOk, IsTrue, MatchOption, OnOk};
+ghost use Rattle.std.specs.List.{list_all};
 ghost use Rattle.fuun_base.specs.declared.rna_file.RnaError.TheVariants.{NoMemory as OutOfMemory};
+ghost use Rattle.fuun_base.specs.Letter.{is_letter};
 ghost use Rattle.fuun_base.specs.RnaFile.{command_of, commands, first_bad, is_command};
 
+use crate::dna_file::{are_letters, fill_letters};
 use crate::letters::is_blank;
 use crate::{Base, Command, CommandList, NoMemory};
 use std::alloc::Global;
@@ -69,6 +72,28 @@ fn after_line(bytes: &[u8], len: usize) -> &[u8]
 
 // The command of a line.
 fn read_line(line: &[u8]) -> Option<Command>
+    ensures { MatchOption result (is_command line.now ≡ false)
+        (λ command. (command ≡ command_of line.now) × (is_command line.now ≡ true)) }
+{
+    if line.len() <= 7 && are_letters(line) {
+        return read_letters(line);
+    }
+    read_each(line)
+}
+
+// The command of a line of letters alone.
+fn read_letters(line: &[u8]) -> Option<Command>
+    requires few { length line.now ≤ 7 }
+    requires letters { IsTrue (list_all is_letter line.now) }
+    ensures { MatchOption result (is_command line.now ≡ false)
+        (λ command. (command ≡ command_of line.now) × (is_command line.now ≡ true)) }
+{
+    let mut bases = [Base::I; 7];
+    fill_letters(line, &mut bases[..line.len()]);
+    Command::from_bases(&bases[..line.len()])
+}
+
+fn read_each(line: &[u8]) -> Option<Command>
     ensures { MatchOption result (is_command line.now ≡ false)
         (λ command. (command ≡ command_of line.now) × (is_command line.now ≡ true)) }
 {

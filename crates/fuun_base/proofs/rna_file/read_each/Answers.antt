@@ -4,8 +4,8 @@ use Rattle.std.proofs.lemmas.List.{length-take-le}
 use Rattle.fuun_base.specs.Letter.{base_of}
 use Rattle.fuun_base.specs.RnaFile.{is_allowed}
 use Rattle.fuun_base.proofs.RnaLines.{allowed_more, blank_allowed, blank_more, eighth_letter, letter_more}
-use Rattle.fuun_base.proofs.rna_file.read_line.Goals as goal
-use Rattle.fuun_base.proofs.rna_file.read_line.Goals.{in-Some+else-len-eq7, in_default+else-not-is_blank}
+use Rattle.fuun_base.proofs.rna_file.read_each.Goals as goal
+use Rattle.fuun_base.proofs.rna_file.read_each.Goals.{in-Some+else-len-eq7, in_default+else-not-is_blank}
 
 pub returns-then-len-eq7 : goal.returns-then-len-eq7
 returns-then-len-eq7 c =

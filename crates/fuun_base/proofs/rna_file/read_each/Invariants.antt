@@ -1,7 +1,7 @@
 use Rattle.std.proofs.Common.{◌≡◌, ◌≤◌, ◌++◌, length, take, drop}
 use Rattle.std.specs.List.{list_all}
 use Rattle.fuun_base.specs.RnaFile.{command_of, is_allowed}
-use Rattle.fuun_base.proofs.rna_file.read_line.Given as goal
+use Rattle.fuun_base.proofs.rna_file.read_each.Given as goal
 
 abbrev pub invariant-loop-byte : goal.invariant-loop-byte
 invariant-loop-byte l = record {
