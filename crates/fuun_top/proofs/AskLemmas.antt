@@ -1,11 +1,14 @@
 -- A folder that allows every name may be asked for each request.
-use Rattle.std.proofs.Common.{ℕ, Bool, Option, Some, None, List}
+use Rattle.std.proofs.Common.{ℕ, Bool, Option, Some, None, List, [], ◌∷◌}
 use Rattle.std.specs.Prelude.{IsTrue}
-use Rattle.fuun_top.specs.Answer.{MayAsk}
-use Rattle.fuun_top.specs.Words.{Request, Rna, Image, Draw}
+use Rattle.fuun_top.specs.Answer.{AreAllowed, MayAsk}
+use Rattle.fuun_top.specs.Reading.{files_of}
+use Rattle.fuun_top.specs.Words.{Request}
+
+each_allowed : (allows : List ℕ → Bool) (names : List (List ℕ)) → ((name : List ℕ) → IsTrue (allows name)) → AreAllowed allows names
+each_allowed allows [] all = tt
+each_allowed allows (name ∷ names) all = (all name, each_allowed allows names all)
 
 pub may_ask_all : (allows : List ℕ → Bool) (asked : Option Request) → ((name : List ℕ) → IsTrue (allows name)) → MayAsk allows asked
 may_ask_all allows None all = tt
-may_ask_all allows (Some (Rna name budget)) all = all name
-may_ask_all allows (Some (Image name budget)) all = all name
-may_ask_all allows (Some (Draw name)) all = all name
+may_ask_all allows (Some asked) all = each_allowed allows (files_of asked) all

@@ -1,7 +1,7 @@
 pub mod LineLemmas
 pub mod NumberLemmas
-pub mod OutputLemmas
-pub mod AskLemmas
-pub mod OneOutput
 pub mod DrawingLemmas
-pub mod PictureLemmas
+pub mod OneOutput
+pub mod WrittenOutput
+pub mod TopLemmas
+pub mod AskLemmas

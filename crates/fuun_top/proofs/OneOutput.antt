@@ -1,74 +1,34 @@
 -- Words over files that are told have exactly one output.
-use Rattle.std.proofs.Common.{◌≡◌, ℕ, Bool, true, false, Option, Some, None, List, length, nat_lt, refl, sym, ap, ◌∙◌, subst, arith}
+use Rattle.std.proofs.Common.{◌≡◌, ℕ, Option, Some, None, Result, Ok, Err, List, ◌∷◌, refl, sym, ap, ◌∙◌, subst, arith}
+use Rattle.std.specs.List.{AllByRecursion}
+use Rattle.std.specs.Option.{option_map}
 use Rattle.fuun_base.specs.declared.letters.Base.{Base}
-use Rattle.fuun_base.specs.DnaFile.{bases, first_other}
-use Rattle.fuun_base.specs.RnaFile.{commands, first_bad}
 use Rattle.rna_code.specs.Commands.{act_of}
+use Rattle.layers.specs.Layers.{top_of}
 use Rattle.painter.specs.Picture.{Picture, Builds, start}
 use Rattle.painter.proofs.Outcomes.{builds_once}
 use Rattle.painter.proofs.Pictures.{builds_always, start_is_picture}
-use Rattle.exec_loop.specs.Run.{Run, IsRun}
+use Rattle.ppm_out.specs.Ppm.{ppm}
+use Rattle.exec_loop.specs.Run.{Run}
 use Rattle.exec_loop.proofs.Runs.{has_run, one_run}
+use Rattle.fuun_top.specs.declared.inputs.Inputs.{Inputs}
+use Rattle.fuun_top.specs.declared.inputs.Inputs.TheVariants as inputs
+use Rattle.fuun_top.specs.declared.request.RunVerb.{RunVerb}
 use Rattle.fuun_top.specs.declared.status.InFile.{InFile}
-use Rattle.fuun_top.specs.declared.status.InFile.TheVariants.{Dna}
 use Rattle.fuun_top.specs.declared.status.InFile.TheVariants as file
 use Rattle.fuun_top.specs.declared.status.Status.{Status}
-use Rattle.fuun_top.specs.declared.status.Status.TheVariants.{BadBase, BadRna, InputTooLong, Usage, Done}
-use Rattle.fuun_top.specs.Lines.{lines}
-use Rattle.fuun_top.specs.Output.{Output, Answers, OutputOf, IsOutput, ByLength, ByLetters, ByLines, JudgedDna, JudgedRna, IsRnaOutput, IsImageOutput, IsPictureOf, most_bytes, status_by, length_limit, refusal, picture_side, most_layers, picture_bytes}
-use Rattle.fuun_top.specs.OutputLaws.{AreTold, HasOutput, HasOneOutput}
-use Rattle.fuun_top.specs.Words.{Request, Rna, Image, Draw, request}
+use Rattle.fuun_top.specs.declared.status.Status.TheVariants.{Done, Usage}
+use Rattle.fuun_top.specs.Output.{Output, Body, Text, Drawing, IsBody, IsRunOutput, IsOutputOf, OutputBy, OutputOf, plain_body, run_body, spent_is_done, status_by, refusal, picture_side, most_layers}
+use Rattle.fuun_top.specs.OutputLaws.{IsTold, AreTold, HasOutput, HasOneOutput}
+use Rattle.fuun_top.specs.Reading.{Files, Reading, then_read, within, bytes_in, dna_in, judged_dna, prefix_in, prefix_files, rna_in, judged_rna, start_in, inputs_of}
+use Rattle.fuun_top.specs.Words.{Request, RunWords, Run as asked_run, Rna as asked_rna, request}
 
 -- what has an output, and what has only one
-abbrev Has : (Output → Type 0) → Type 0
-Has P = (output : Output) × P output
+abbrev pub Has : (Output → Type 0) → Type 0
+Has Is = (output : Output) × Is output
 
-abbrev HasOne : (Output → Type 0) → Type 0
-HasOne P = (a b : Output) → P a → P b → a ≡ b
-
-length_has : (in_file : InFile) (long : Bool) (Rest : Output → Type 0) → Has Rest → Has (ByLength in_file long Rest)
-length_has in_file true Rest has = (refusal (InputTooLong in_file), refl)
-length_has in_file false Rest has = has
-
-length_one : (in_file : InFile) (long : Bool) (Rest : Output → Type 0) → HasOne Rest → HasOne (ByLength in_file long Rest)
-length_one in_file true Rest one = λ a b p q. p ∙ sym q
-length_one in_file false Rest one = one
-
-letters_has : (in_file : InFile) (other : Option ℕ) (Rest : Output → Type 0) → Has Rest → Has (ByLetters in_file other Rest)
-letters_has in_file (Some place) Rest has = (refusal (BadBase in_file place), refl)
-letters_has in_file None Rest has = has
-
-letters_one : (in_file : InFile) (other : Option ℕ) (Rest : Output → Type 0) → HasOne Rest → HasOne (ByLetters in_file other Rest)
-letters_one in_file (Some place) Rest one = λ a b p q. p ∙ sym q
-letters_one in_file None Rest one = one
-
--- a DNA file is judged to one output where its bases have one
-judged_has : (in_file : InFile) (contents : List ℕ) (P : List Base → Output → Type 0) → Has (P (bases contents)) → Has (JudgedDna in_file contents P)
-judged_has in_file contents P has =
-    length_has in_file (nat_lt most_bytes (length contents)) (ByLetters in_file (first_other contents) (P (bases contents)))
-    (letters_has in_file (first_other contents) (P (bases contents)) has)
-
-judged_one : (in_file : InFile) (contents : List ℕ) (P : List Base → Output → Type 0) → HasOne (P (bases contents)) → HasOne (JudgedDna in_file contents P)
-judged_one in_file contents P one =
-    length_one in_file (nat_lt most_bytes (length contents)) (ByLetters in_file (first_other contents) (P (bases contents)))
-    (letters_one in_file (first_other contents) (P (bases contents)) one)
-
-rna_has : (d : List Base) (budget : ℕ) → Has (IsRnaOutput d budget)
-rna_has d budget =
-    let has = has_run length_limit budget d in
-    (record { status = status_by has.0.end; bytes = lines has.0.rna }, (has.0, has.1, refl))
-
-rna_one : (d : List Base) (budget : ℕ) → HasOne (IsRnaOutput d budget)
-rna_one d budget a b (run, is, whole) (run', is', whole') =
-    whole ∙ ap (λ (r : Run). record { status = status_by r.end; bytes = lines r.rna }) (one_run length_limit budget d run run' is is') ∙ sym whole'
-
-lines_has : (bad : Option ℕ) (Rest : Output → Type 0) → Has Rest → Has (ByLines bad Rest)
-lines_has (Some line) Rest has = (refusal (BadRna line), refl)
-lines_has None Rest has = has
-
-lines_one : (bad : Option ℕ) (Rest : Output → Type 0) → HasOne Rest → HasOne (ByLines bad Rest)
-lines_one (Some line) Rest one = λ a b p q. p ∙ sym q
-lines_one None Rest one = one
+abbrev pub HasOne : (Output → Type 0) → Type 0
+HasOne Is = (a b : Output) → Is a → Is b → a ≡ b
 
 drawn_has : (rna : List (List Base)) → (picture : Picture) × Builds picture_side most_layers act_of rna (start picture_side) picture
 unfolding picture_side most_layers
@@ -76,65 +36,91 @@ drawn_has rna =
     let drawn = builds_always 600 10 act_of rna (start 600) (start_is_picture 600 10 (omega arith) (omega arith) (omega arith)) in
     (drawn.0, drawn.1.0)
 
-picture_has : (rna : List (List Base)) (status : Status) → Has (IsPictureOf rna status)
-picture_has rna status =
+body_has : (status : Status) (body : Body) → Has (IsBody status body)
+body_has status (Text bytes) = (record { status = status; bytes = bytes }, refl)
+body_has status (Drawing rna) =
     let drawn = drawn_has rna in
-    (record { status = status; bytes = picture_bytes picture_side drawn.0 }, (drawn.0, drawn.1, refl))
+    (record { status = status; bytes = ppm picture_side (top_of drawn.0.layers) }, record { picture = drawn.0; builds = drawn.1; is = refl })
 
-picture_one : (rna : List (List Base)) (status : Status) → HasOne (IsPictureOf rna status)
-picture_one rna status a b (picture, is, whole) (picture', is', whole') =
-    whole ∙ ap (λ (p : Picture). record { status = status; bytes = picture_bytes picture_side p }) (builds_once picture_side most_layers act_of rna (start picture_side) picture picture' is is') ∙ sym whole'
+body_one : (status : Status) (body : Body) → HasOne (IsBody status body)
+body_one status (Text bytes) a b p q = p ∙ sym q
+body_one status (Drawing rna) a b p q =
+    p.is ∙ ap (λ (picture : Picture). record { status = status; bytes = ppm picture_side (top_of picture.layers) })
+    (builds_once picture_side most_layers act_of rna (start picture_side) p.picture q.picture p.builds q.builds) ∙ sym q.is
 
-image_has : (d : List Base) (budget : ℕ) → Has (IsImageOutput d budget)
-image_has d budget =
-    let has = has_run length_limit budget d in
-    let drawn = picture_has has.0.rna (status_by has.0.end) in
-    (drawn.0, (has.0, has.1, drawn.1))
+run_has : (verb : RunVerb) (dna : List Base) (budget limit : ℕ) → Has (IsRunOutput verb dna budget limit)
+run_has verb dna budget limit =
+    let run = has_run limit budget dna in
+    let body = body_has (status_by (spent_is_done verb) run.0.end) (run_body verb run.0) in
+    (body.0, record { run = run.0; is = run.1; writes = body.1 })
 
-image_one : (d : List Base) (budget : ℕ) → HasOne (IsImageOutput d budget)
-image_one d budget a b (run, is, drawn) (run', is', drawn') =
-    let same = one_run length_limit budget d run' run is' is in
-    picture_one run.rna (status_by run.end) a b drawn (subst (λ (r : Run). IsPictureOf r.rna (status_by r.end) b) same drawn')
+run_one : (verb : RunVerb) (dna : List Base) (budget limit : ℕ) → HasOne (IsRunOutput verb dna budget limit)
+run_one verb dna budget limit a b p q =
+    let same = one_run limit budget dna q.run p.run q.is p.is in
+    body_one (status_by (spent_is_done verb) p.run.end) (run_body verb p.run) a b p.writes
+    (subst (λ (run : Run). IsBody (status_by (spent_is_done verb) run.end) (run_body verb run) b) same q.writes)
 
--- an RNA file is judged to one output
-judged_rna_has : (contents : List ℕ) → Has (JudgedRna contents (λ rna. IsPictureOf rna Done))
-judged_rna_has contents =
-    length_has file.Rna (nat_lt most_bytes (length contents)) (ByLines (first_bad contents) (IsPictureOf (commands contents) Done))
-    (lines_has (first_bad contents) (IsPictureOf (commands contents) Done) (picture_has (commands contents) Done))
+output_has : (inputs : Inputs) → Has (IsOutputOf inputs)
+output_has (inputs.Run verb dna budget limit) = run_has verb dna budget limit
+output_has (inputs.Plain plain) = body_has Done (plain_body plain)
 
-judged_rna_one : (contents : List ℕ) → HasOne (JudgedRna contents (λ rna. IsPictureOf rna Done))
-judged_rna_one contents =
-    length_one file.Rna (nat_lt most_bytes (length contents)) (ByLines (first_bad contents) (IsPictureOf (commands contents) Done))
-    (lines_one (first_bad contents) (IsPictureOf (commands contents) Done) (picture_one (commands contents) Done))
+pub output_one : (inputs : Inputs) → HasOne (IsOutputOf inputs)
+output_one (inputs.Run verb dna budget limit) = run_one verb dna budget limit
+output_one (inputs.Plain plain) = body_one Done (plain_body plain)
 
-same_contents : (told : Option (List ℕ)) (a b : List ℕ) → told ≡ Some a → told ≡ Some b → a ≡ b
-same_contents told a b p q = cc (p, q)
+-- it is known what is read
+abbrev Known : {A : Type 0} → Reading A → Type 0
+Known {A} reading = (read : Result A Status) × (reading ≡ Some read)
 
-asked_has : (files : List ℕ → Option (List ℕ)) (asked : Option Request) → AreTold files asked → Has (OutputOf files asked)
+then_known : {A B : Type 0} (reading : Reading A) (next : A → Reading B) → Known reading → ((value : A) → Known (next value)) → Known (then_read reading next)
+then_known None next (read, is) known = absurd (cc is)
+then_known (Some (Err status)) next (read, is) known = (Err status, refl)
+then_known (Some (Ok value)) next (read, is) known = known value
+
+bytes_known : (files : Files) (in_file : InFile) (name : List ℕ) → IsTold files name → Known (bytes_in files in_file name)
+bytes_known files in_file name (contents, told) = (within in_file contents, ap (option_map (within in_file)) told)
+
+dna_known : (files : Files) (in_file : InFile) (name : List ℕ) → IsTold files name → Known (dna_in files in_file name)
+dna_known files in_file name told =
+    then_known (bytes_in files in_file name) (λ contents. Some (judged_dna in_file contents)) (bytes_known files in_file name told)
+    (λ contents. (judged_dna in_file contents, refl))
+
+rna_known : (files : Files) (name : List ℕ) → IsTold files name → Known (rna_in files name)
+rna_known files name told =
+    then_known (bytes_in files file.Rna name) (λ contents. Some (judged_rna contents)) (bytes_known files file.Rna name told)
+    (λ contents. (judged_rna contents, refl))
+
+prefix_known : (files : Files) (prefix : Option (List ℕ)) → AllByRecursion (IsTold files) (prefix_files prefix) → Known (prefix_in files prefix)
+prefix_known files None told = (_, refl)
+prefix_known files (Some name) told = dna_known files file.Prefix name told.0
+
+start_known : (files : Files) (words : RunWords) → AllByRecursion (IsTold files) (words.dna ∷ prefix_files words.prefix) → Known (start_in files words)
+start_known files words told =
+    then_known (dna_in files file.Dna words.dna) _ (dna_known files file.Dna words.dna told.0) (λ dna.
+    then_known (prefix_in files words.prefix) _ (prefix_known files words.prefix told.1) (λ prefix. (_, refl)))
+
+inputs_known : (files : Files) (asked : Request) → AreTold files (Some asked) → Known (inputs_of files asked)
+inputs_known files (asked_run verb words) told =
+    then_known (start_in files words) (λ dna. Some (Ok (inputs.Run verb dna words.budget words.limit))) (start_known files words told) (λ dna. (_, refl))
+inputs_known files (asked_rna verb name) told = then_known (rna_in files name) _ (rna_known files name told.0) (λ commands. (_, refl))
+
+by_has : (reading : Reading Inputs) → Known reading → Has (OutputBy reading)
+by_has None (read, is) = absurd (cc is)
+by_has (Some (Err status)) known = (refusal status, refl)
+by_has (Some (Ok inputs)) known = output_has inputs
+
+by_one : (reading : Reading Inputs) → HasOne (OutputBy reading)
+by_one None a b p q = absurd p
+by_one (Some (Err status)) a b p q = p ∙ sym q
+by_one (Some (Ok inputs)) a b p q = output_one inputs a b p q
+
+asked_has : (files : Files) (asked : Option Request) → AreTold files asked → Has (OutputOf files asked)
 asked_has files None told = (refusal Usage, refl)
-asked_has files (Some (Rna name budget)) (contents, is) =
-    let has = judged_has Dna contents (λ d. IsRnaOutput d budget) (rna_has (bases contents) budget) in
-    (has.0, (contents, is, has.1))
-asked_has files (Some (Image name budget)) (contents, is) =
-    let has = judged_has Dna contents (λ d. IsImageOutput d budget) (image_has (bases contents) budget) in
-    (has.0, (contents, is, has.1))
-asked_has files (Some (Draw name)) (contents, is) =
-    let has = judged_rna_has contents in
-    (has.0, (contents, is, has.1))
+asked_has files (Some asked) told = by_has (inputs_of files asked) (inputs_known files asked told)
 
-asked_one : (files : List ℕ → Option (List ℕ)) (asked : Option Request) → HasOne (OutputOf files asked)
+asked_one : (files : Files) (asked : Option Request) → HasOne (OutputOf files asked)
 asked_one files None a b p q = p ∙ sym q
-asked_one files (Some (Rna name budget)) a b (contents, told, judged) (contents', told', judged') =
-    let same = same_contents (files name) contents' contents told' told in
-    judged_one Dna contents (λ d. IsRnaOutput d budget) (rna_one (bases contents) budget) a b judged
-    (subst (λ l. JudgedDna Dna l (λ d. IsRnaOutput d budget) b) same judged')
-asked_one files (Some (Image name budget)) a b (contents, told, judged) (contents', told', judged') =
-    let same = same_contents (files name) contents' contents told' told in
-    judged_one Dna contents (λ d. IsImageOutput d budget) (image_one (bases contents) budget) a b judged
-    (subst (λ l. JudgedDna Dna l (λ d. IsImageOutput d budget) b) same judged')
-asked_one files (Some (Draw name)) a b (contents, told, judged) (contents', told', judged') =
-    let same = same_contents (files name) contents' contents told' told in
-    judged_rna_one contents a b judged (subst (λ l. JudgedRna l (λ rna. IsPictureOf rna Done) b) same judged')
+asked_one files (Some asked) a b p q = by_one (inputs_of files asked) a b p q
 
 pub has_output : HasOutput
 has_output files words told = asked_has files (request words) told

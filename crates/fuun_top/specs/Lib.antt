@@ -1,10 +1,11 @@
 pub mod Words
 pub mod StatusLine
-pub mod Lines
+pub mod Stages
+pub mod RnaText
+pub mod Reading
 pub mod Output
 pub mod Answer
 pub mod Asked
-pub mod Files
-pub mod Running
-pub mod Drawing
+pub mod ReadingRoom
+pub mod WritingRoom
 pub mod OutputLaws

@@ -3,7 +3,7 @@ use Rattle.std.specs.Prelude.{ℕ, List, [], ◌∷◌, ◌++◌, codes, decimal
 use Rattle.fuun_top.specs.declared.status.InFile.{InFile}
 use Rattle.fuun_top.specs.declared.status.InFile.TheVariants.{Dna, Prefix, Rna, Patch}
 use Rattle.fuun_top.specs.declared.status.Status.{Status}
-use Rattle.fuun_top.specs.declared.status.Status.TheVariants.{Done, Usage, OutOfBudget, TooLong, BadBase, BadRna, InputTooLong, ReadFault, WriteFault, NoMemory}
+use Rattle.fuun_top.specs.declared.status.Status.TheVariants.{Done, Usage, OutOfBudget, TooLong, BadBase, BadRna, InputTooLong, ReadFault, WriteFault, NoMemory, StartTooLong}
 
 -- the name of a file that the words name
 abbrev pub file_name : InFile → List ℕ
@@ -24,6 +24,7 @@ number_of (InputTooLong file) = 10
 number_of ReadFault = 11
 number_of WriteFault = 12
 number_of NoMemory = 13
+number_of StartTooLong = 14
 
 -- a line on standard error
 abbrev pub line : List ℕ → List ℕ
@@ -41,3 +42,4 @@ status_line (InputTooLong file) = line (file_name file ++ codes ": too long")
 status_line ReadFault = line (codes "read fault")
 status_line WriteFault = line (codes "write fault")
 status_line NoMemory = line (codes "no memory")
+status_line StartTooLong = line (codes "start too long")

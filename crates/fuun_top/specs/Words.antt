@@ -1,16 +1,26 @@
 -- What the words of the command line ask for.
-use Rattle.std.specs.Prelude.{◌≡◌, ℕ, ◌^◌, Bool, ◌&&◌, if◌then◌else◌, Option, Some, None, List, [], ◌∷◌, map, length, nat_le, nat_lt, nat_eq, string_bytes, codes, String}
+use Rattle.std.specs.Prelude.{ℕ, ◌^◌, Bool, ◌&&◌, if◌then◌else◌, Option, Some, None, List, [], ◌∷◌, map, length, nat_le, nat_lt, nat_eq, string_bytes, codes, String}
 use Rattle.std.specs.List.{list_all}
 use Rattle.std.specs.Cmp.Lexicographic.{pointwise}
 use Rattle.std.specs.Option.{option_map}
 use Rattle.std.specs.Str.Parse.{digits_value}
+use Rattle.fuun_top.specs.declared.request.RunVerb.{RunVerb}
+use Rattle.fuun_top.specs.declared.request.RunVerb.TheVariants as run
+use Rattle.fuun_top.specs.declared.request.RnaVerb.{RnaVerb}
+use Rattle.fuun_top.specs.declared.request.RnaVerb.TheVariants as rna
 
--- what is asked for: the RNA of the run of a DNA file under a budget of attempts, the picture of that RNA, or the
--- picture of the commands of an RNA file
+-- the words of a run: the names of the DNA file and of the file before it, if there is one; the most attempts; the
+-- greatest length of a DNA
+pub record RunWords : Type 0 where
+  pub dna : List ℕ
+  pub prefix : Option (List ℕ)
+  pub budget : ℕ
+  pub limit : ℕ
+
+-- what is asked for: what a verb makes of a run, or of the commands of an RNA file
 pub data Request : Type 0 where
-  Rna : List ℕ → ℕ → Request
-  Image : List ℕ → ℕ → Request
-  Draw : List ℕ → Request
+  Run : RunVerb → RunWords → Request
+  Rna : RnaVerb → List ℕ → Request
 
 -- whether a byte is a decimal digit
 abbrev pub is_digit : ℕ → Bool
@@ -28,27 +38,35 @@ number most text = if is_number text && nat_le (digits_value 10 text) most then 
 abbrev pub most_budget : ℕ
 most_budget = 2 ^ 40
 
+-- the greatest length of a DNA where the words name none
+abbrev pub usual_limit : ℕ
+usual_limit = 2 ^ 26
+
 -- whether a word is that text
 abbrev pub is_word : List ℕ → List ℕ → Bool
 is_word word text = pointwise nat_eq word text
 
+-- the run of a DNA file alone under a budget
+abbrev pub plain_run : RunVerb → List ℕ → ℕ → Request
+plain_run verb file budget = Run verb (record { dna = file; prefix = None; budget = budget; limit = usual_limit })
+
 -- the words `VERB --dna F --budget N` of this verb
-abbrev pub run_request : List ℕ → (List ℕ → ℕ → Request) → List ℕ → List ℕ → List ℕ → List ℕ → List ℕ → Option Request
+abbrev pub run_request : List ℕ → RunVerb → List ℕ → List ℕ → List ℕ → List ℕ → List ℕ → Option Request
 run_request name asks verb first file second budget =
     if is_word verb name && is_word first (codes "--dna") && is_word second (codes "--budget")
-    then option_map (asks file) (number most_budget budget)
+    then option_map (plain_run asks file) (number most_budget budget)
     else None
 
 -- the words `rna --dna F --budget N` and `image --dna F --budget N`
 abbrev pub rna_or_image : List ℕ → List ℕ → List ℕ → List ℕ → List ℕ → Option Request
 rna_or_image verb first file second budget =
     if is_word verb (codes "image")
-    then run_request (codes "image") Image verb first file second budget
-    else run_request (codes "rna") Rna verb first file second budget
+    then run_request (codes "image") run.Image verb first file second budget
+    else run_request (codes "rna") run.Rna verb first file second budget
 
 -- the words `draw --rna F`
 abbrev pub draw_request : List ℕ → List ℕ → List ℕ → Option Request
-draw_request verb first file = if is_word verb (codes "draw") && is_word first (codes "--rna") then Some (Draw file) else None
+draw_request verb first file = if is_word verb (codes "draw") && is_word first (codes "--rna") then Some (Rna rna.Draw file) else None
 
 -- what the words ask for: none where they are in no form that is known
 abbrev pub request : List (List ℕ) → Option Request

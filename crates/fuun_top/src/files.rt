@@ -1,11 +1,12 @@
-ghost use Rattle.std.specs.Prelude.{◌≡◌, ◌≢◌, ◌≤◌, length, IsTrue, IfOk, IfErr, IfSome};
-ghost use Rattle.fuun_base.specs.RnaFile.{commands, first_bad};
-ghost use Rattle.fuun_io.specs.Counts.{raised, Rose};
-ghost use Rattle.fuun_top.specs.Answer.{IsGiven};
-ghost use Rattle.fuun_top.specs.Files.{RefusesDna, RefusesRna};
-ghost use Rattle.fuun_top.specs.Output.{most_bytes};
-ghost use Rattle.fuun_top.specs.Running.{IsReadAs};
+// Files, read whole and judged.
+ghost use Rattle.std.specs.Prelude.{◌≡◌, ◌∷◌, [], IsTrue};
+ghost use Rattle.std.specs.Result.{result_map_both};
+ghost use Rattle.fuun_top.specs.Answer.{AreAllowed};
+ghost use Rattle.fuun_top.specs.Asked.{words_of};
+ghost use Rattle.fuun_top.specs.Reading.{bytes_in, dna_in, judged_dna, judged_rna, prefix_files, prefix_in, rna_in};
+ghost use Rattle.fuun_top.specs.ReadingRoom.{Judges, Reads};
 
+use crate::request::RunWords;
 use crate::{InFile, Status};
 use fuun_base::{BaseList, CommandList, DnaError, RnaError, read_dna, read_rna};
 use fuun_io::{Folder, ReadError, read_all};
@@ -14,7 +15,51 @@ use std::alloc::Global;
 /// The most bytes that a file may have.
 const MOST_BYTES: u64 = 1 << 26;
 
-/// The bases of a DNA file, at most 2^26 of them, or the status of what it lacks.
+/// The bytes of a file, at most 2^26 of them. Each read of the crate goes through here.
+fn file_bytes<F: Folder>(
+    alloc: Global,
+    folder: &mut F,
+    name: &str,
+    file: InFile,
+) -> Result<Vec<u8>, Status>
+    requires { IsTrue (F.allows folder.old name.now) }
+    ensures reads { Reads (F.contents folder.old) (name.now ∷ []) (bytes_in (F.contents folder.old) file name.now)
+        (result_map_both (λ bytes. bytes.items) (λ status. status) result)
+        (F.given folder.old) (F.given folder.new) (F.faults folder.old) (F.faults folder.new) }
+    ensures same_contents { F.contents folder.new ≡ F.contents folder.old }
+    ensures same_names { F.allows folder.new ≡ F.allows folder.old }
+{
+    match read_all(alloc, folder, name, MOST_BYTES) {
+        Ok(bytes) => Ok(bytes),
+        Err(ReadError::ReadFault) => Err(Status::ReadFault),
+        Err(ReadError::InputTooLong) => Err(Status::InputTooLong { file }),
+        Err(ReadError::NoMemory) => Err(Status::NoMemory),
+    }
+}
+
+/// The bases that the bytes of a DNA file stand for.
+fn judge_dna(alloc: Global, file: InFile, bytes: &[u8]) -> Result<BaseList, Status>
+    ensures { Judges (judged_dna file bytes.now) result }
+{
+    match read_dna(alloc, bytes) {
+        Ok(dna) => Ok(dna),
+        Err(DnaError::BadBase { place }) => Err(Status::BadBase { file, place }),
+        Err(DnaError::NoMemory) => Err(Status::NoMemory),
+    }
+}
+
+/// The commands that the bytes of an RNA file stand for.
+fn judge_rna(alloc: Global, bytes: &[u8]) -> Result<CommandList, Status>
+    ensures { Judges (judged_rna bytes.now) result }
+{
+    match read_rna(alloc, bytes) {
+        Ok(commands) => Ok(commands),
+        Err(RnaError::BadRna { line }) => Err(Status::BadRna { line }),
+        Err(RnaError::NoMemory) => Err(Status::NoMemory),
+    }
+}
+
+/// The bases of a DNA file.
 pub(crate) fn dna_file<F: Folder>(
     alloc: Global,
     folder: &mut F,
@@ -22,56 +67,50 @@ pub(crate) fn dna_file<F: Folder>(
     file: InFile,
 ) -> Result<BaseList, Status>
     requires { IsTrue (F.allows folder.old name.now) }
-
-    ensures most { IfOk result (λ dna. length dna ≤ most_bytes) }
-    ensures bases { IfOk result (λ dna. IfSome (F.contents folder.old name.now)
-        (IsReadAs dna)) }
-    ensures given { IfOk result (λ dna. IsGiven (F.contents folder.old) (F.given folder.old) (F.given folder.new) name.now) }
-    ensures refused { IfErr result
-        (RefusesDna file (F.contents folder.old name.now) (F.given folder.old) (F.given folder.new)) }
-
-    ensures fault { result ≡ Err Status.ReadFault → Rose (F.faults folder.old) (F.faults folder.new) }
-    ensures no_fault { result ≢ Err Status.ReadFault → F.faults folder.new ≡ F.faults folder.old }
+    ensures reads { Reads (F.contents folder.old) (name.now ∷ []) (dna_in (F.contents folder.old) file name.now)
+        result (F.given folder.old) (F.given folder.new) (F.faults folder.old) (F.faults folder.new) }
+    ensures same_contents { F.contents folder.new ≡ F.contents folder.old }
+    ensures same_names { F.allows folder.new ≡ F.allows folder.old }
 {
-    let bytes = match read_all(alloc, folder, name, MOST_BYTES) {
-        Ok(bytes) => bytes,
-        Err(ReadError::ReadFault) => return Err(Status::ReadFault),
-        Err(ReadError::InputTooLong) => return Err(Status::InputTooLong { file }),
-        Err(ReadError::NoMemory) => return Err(Status::NoMemory),
-    };
-    match read_dna(alloc, &bytes) {
-        Ok(dna) => Ok(dna),
-        Err(DnaError::BadBase { place }) => Err(Status::BadBase { file, place }),
-        Err(DnaError::NoMemory) => Err(Status::NoMemory),
+    match file_bytes(alloc, folder, name, file) {
+        Ok(bytes) => judge_dna(alloc, file, &bytes),
+        Err(status) => Err(status),
     }
 }
 
-/// The commands of an RNA file, or the status of what it lacks.
+/// The bases of the prefix file: none without one.
+pub(crate) fn prefix_file<F: Folder>(
+    alloc: Global,
+    folder: &mut F,
+    words: &RunWords<'_>,
+) -> Result<BaseList, Status>
+    requires { AreAllowed (F.allows folder.old) (prefix_files (words_of words.now).prefix) }
+    ensures reads { Reads (F.contents folder.old) (prefix_files (words_of words.now).prefix)
+        (prefix_in (F.contents folder.old) (words_of words.now).prefix)
+        result (F.given folder.old) (F.given folder.new) (F.faults folder.old) (F.faults folder.new) }
+    ensures same_contents { F.contents folder.new ≡ F.contents folder.old }
+    ensures same_names { F.allows folder.new ≡ F.allows folder.old }
+{
+    match words.prefix {
+        Some(name) => dna_file(alloc, folder, name, InFile::Prefix),
+        None => Ok(BaseList::new(alloc)),
+    }
+}
+
+/// The commands of an RNA file.
 pub(crate) fn rna_file<F: Folder>(
     alloc: Global,
     folder: &mut F,
     name: &str,
 ) -> Result<CommandList, Status>
     requires { IsTrue (F.allows folder.old name.now) }
-
-    ensures commands { IfOk result (λ rna. IfSome (F.contents folder.old name.now)
-        (λ contents. (length contents ≤ most_bytes) × (first_bad contents ≡ None) × (rna ≡ commands contents))) }
-    ensures given { IfOk result (λ rna. IsGiven (F.contents folder.old) (F.given folder.old) (F.given folder.new) name.now) }
-    ensures refused { IfErr result
-        (RefusesRna (F.contents folder.old name.now) (F.given folder.old) (F.given folder.new)) }
-
-    ensures fault { result ≡ Err Status.ReadFault → Rose (F.faults folder.old) (F.faults folder.new) }
-    ensures no_fault { result ≢ Err Status.ReadFault → F.faults folder.new ≡ F.faults folder.old }
+    ensures reads { Reads (F.contents folder.old) (name.now ∷ []) (rna_in (F.contents folder.old) name.now)
+        result (F.given folder.old) (F.given folder.new) (F.faults folder.old) (F.faults folder.new) }
+    ensures same_contents { F.contents folder.new ≡ F.contents folder.old }
+    ensures same_names { F.allows folder.new ≡ F.allows folder.old }
 {
-    let bytes = match read_all(alloc, folder, name, MOST_BYTES) {
-        Ok(bytes) => bytes,
-        Err(ReadError::ReadFault) => return Err(Status::ReadFault),
-        Err(ReadError::InputTooLong) => return Err(Status::InputTooLong { file: InFile::Rna }),
-        Err(ReadError::NoMemory) => return Err(Status::NoMemory),
-    };
-    match read_rna(alloc, &bytes) {
-        Ok(commands) => Ok(commands),
-        Err(RnaError::BadRna { line }) => Err(Status::BadRna { line }),
-        Err(RnaError::NoMemory) => Err(Status::NoMemory),
+    match file_bytes(alloc, folder, name, InFile::Rna) {
+        Ok(bytes) => judge_rna(alloc, &bytes),
+        Err(status) => Err(status),
     }
 }

@@ -38,6 +38,8 @@ pub enum Status {
     WriteFault,
     /// There was not enough memory.
     NoMemory,
+    /// The prefix and the DNA together have more bases than the limit.
+    StartTooLong,
 }
 
 impl InFile {
@@ -69,6 +71,7 @@ impl Status {
             Status::ReadFault => 11,
             Status::WriteFault => 12,
             Status::NoMemory => 13,
+            Status::StartTooLong => 14,
         }
     }
 }
@@ -92,6 +95,7 @@ pub fn put_status<S: Sink>(status: &Status, sink: &mut S) -> Result<(), WriteFau
         Status::ReadFault => put_pieces(sink, &[b"fuun: read fault\n"]),
         Status::WriteFault => put_pieces(sink, &[b"fuun: write fault\n"]),
         Status::NoMemory => put_pieces(sink, &[b"fuun: no memory\n"]),
+        Status::StartTooLong => put_pieces(sink, &[b"fuun: start too long\n"]),
     }
 }
 

@@ -82,7 +82,7 @@ fn refusals_write_nothing(rt: HostRuntime) -> Result<(), Fail> {
         place,
     };
     for (name, file, status) in [
-        ("a", b"IIPIPC\nXCF".as_slice(), bad(6)),
+        ("a", b"IIPIPCXCF".as_slice(), bad(6)),
         ("a", b"iip".as_slice(), bad(0)),
         ("b", b"IIP".as_slice(), Status::ReadFault),
     ] {
@@ -154,6 +154,11 @@ fn statuses_have_their_lines(rt: HostRuntime) -> Result<(), Fail> {
         (Status::ReadFault, 11, b"fuun: read fault\n".as_slice()),
         (Status::WriteFault, 12, b"fuun: write fault\n".as_slice()),
         (Status::NoMemory, 13, b"fuun: no memory\n".as_slice()),
+        (
+            Status::StartTooLong,
+            14,
+            b"fuun: start too long\n".as_slice(),
+        ),
     ] {
         let mut sink = MemSink::with_room(rt.alloc(), 64)?;
         put_status(&status, &mut sink)?;
@@ -229,46 +234,120 @@ fn images_of_small_files(rt: HostRuntime) -> Result<(), Fail> {
     Ok(())
 }
 
+/// The lines of an RNA file: each command so many times.
+fn rna_lines(alloc: Global, parts: &[(usize, &str)]) -> Result<Vec<u8>, AllocError> {
+    let mut file = Vec::new(alloc);
+    for (count, command) in parts {
+        for _ in 0..*count {
+            file.extend_from_slice(command.as_bytes())?;
+            file.push(b'\n')?;
+        }
+    }
+    Ok(file)
+}
+
 #[test]
 fn drawings_of_small_files(rt: HostRuntime) -> Result<(), Fail> {
     let words = ["draw", "--rna", "a"];
-    let edge = 599 * 600;
-    for (file, at, pixel, others) in [
-        (b"PIPIIIP\nPIIPIIP".as_slice(), 0, RED, RED),
-        (b"PFFICCP\n".as_slice(), 0, BLANK, BLANK),
+    for (parts, at, pixel, others) in [
+        ([(1, "PIPIIIP"), (1, "PIIPIIP")].as_slice(), 0, RED, RED),
+        ([(1, "PFFICCP")].as_slice(), 0, BLANK, BLANK),
         (
-            b"PIPIIIC\nPIPIICF\nPIPIIFF\nPFFICCP\n".as_slice(),
+            [(1, "PIPIIPF"), (2, "PIPIIPP"), (1, "PFFICCP")].as_slice(),
+            0,
+            BLANK,
+            BLANK,
+        ),
+        (
+            [
+                (1, "PIPIIIC"),
+                (1, "PIPIICF"),
+                (1, "PIPIIFF"),
+                (1, "PFFICCP"),
+            ]
+            .as_slice(),
             0,
             [85, 170, 85],
             BLANK,
         ),
         (
-            b"PIPIICF\nPIPIIPF\nPIPIIPP\nPFFICCP\n".as_slice(),
+            [
+                (1, "PIPIICF"),
+                (1, "PIPIIPF"),
+                (1, "PIPIIPP"),
+                (1, "PFFICCP"),
+            ]
+            .as_slice(),
             0,
             [127, 127, 0],
             BLANK,
         ),
         (
-            b"PIPIIIP\nPCCCCCP\nPIIIIIP\nPCCIFFP\nPFFICCP\n".as_slice(),
-            edge,
+            [
+                (18, "PIPIIIC"),
+                (7, "PIPIIIP"),
+                (39, "PIPIIFC"),
+                (10, "PIPIIPC"),
+                (3, "PIPIIPP"),
+                (1, "PIPIIPF"),
+                (1, "PFFICCP"),
+            ]
+            .as_slice(),
+            0,
+            [143, 25, 125],
+            BLANK,
+        ),
+        (
+            [
+                (1, "PIPIIIP"),
+                (1, "PCCCCCP"),
+                (1, "PIIIIIP"),
+                (1, "PCCIFFP"),
+                (1, "PFFICCP"),
+            ]
+            .as_slice(),
+            599 * 600,
             RED,
             BLANK,
         ),
         (
-            b"PIPIIIP\nPIIPIIP\nPCCPFFP\nPIIPICP\nPIPIICP\nPIPIIPF\nPIPIIPP\nPIIPIIP\nPFFPCCP\n".as_slice(),
+            [
+                (1, "PIPIIIP"),
+                (1, "PIIPIIP"),
+                (1, "PCCPFFP"),
+                (1, "PIIPICP"),
+                (1, "PIPIICP"),
+                (1, "PIPIIPF"),
+                (1, "PIPIIPP"),
+                (1, "PIIPIIP"),
+                (1, "PFFPCCP"),
+            ]
+            .as_slice(),
             0,
             [128, 0, 127],
             [128, 0, 127],
         ),
         (
-            b"PIPIIIP\nPIIPIIP\nPCCPFFP\nPIIPICP\nPIPIICP\nPIPIIPF\nPIPIIPP\nPIIPIIP\nPFFICCF\n".as_slice(),
+            [
+                (1, "PIPIIIP"),
+                (1, "PIIPIIP"),
+                (1, "PCCPFFP"),
+                (1, "PIIPICP"),
+                (1, "PIPIICP"),
+                (1, "PIPIIPF"),
+                (1, "PIPIIPP"),
+                (1, "PIIPIIP"),
+                (1, "PFFICCF"),
+            ]
+            .as_slice(),
             0,
             [127, 0, 0],
             [127, 0, 0],
         ),
     ] {
+        let file = rna_lines(rt.alloc(), parts)?;
         let picture = Expected { at, pixel, others };
-        expect_picture::<Brand>(&rt, rt.alloc(), Blank::new(1), &words, file, &picture)?;
+        expect_picture::<Brand>(&rt, rt.alloc(), Blank::new(1), &words, &file, &picture)?;
     }
     Ok(())
 }

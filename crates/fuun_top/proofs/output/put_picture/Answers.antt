@@ -1,6 +1,12 @@
-use Rattle.fuun_top.specs.Output.{picture_side, most_layers}
+use Rattle.std.proofs.Common.{ap}
+use Rattle.ppm_out.specs.Ppm.{ppm}
+use Rattle.fuun_top.specs.Output.{IsPictureOf}
+use Rattle.fuun_top.proofs.WrittenOutput.{output_put}
 use Rattle.fuun_top.proofs.output.put_picture.Goals as goal
 
-pub returns : goal.returns
-unfolding picture_side most_layers
-returns g c = c.put_painted.ensures
+pub returns-in-Ok : goal.returns-in-Ok
+returns-in-Ok g c =
+    output_put (IsPictureOf g.row.SIDE g.row.MAX c.args.commands.now c.args.status)
+    (record { status = c.args.status; bytes = ppm g.row.SIDE c.top.result.now }) c.write_ppm.result c.status_after.result _ _ _ _
+    (record { picture = c.in-Ok.painter.picture; builds = c.in-Ok.ensures; is = ap (λ top. record { status = c.args.status; bytes = ppm g.row.SIDE top }) c.top.ensures })
+    c.status_after.ensures c.write_ppm.ensures.puts c.write_ppm.ensures.cause

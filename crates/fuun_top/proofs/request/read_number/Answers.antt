@@ -4,5 +4,5 @@ use Rattle.fuun_top.proofs.request.read_number.Goals as goal
 
 pub returns-in_default-2 : goal.returns-in_default-2
 returns-in_default-2 c =
-    let refused = number-refused c.args.most c.args.text.now c.ranges.most.fits (sym c.is_number.ensures ∙ c.if-not-is_number.false) c.in_default.ensures.value.0 in
+    let refused = number-refused c.args.most c.args.text.now c.ranges.most.fits (sym c.is_decimal.ensures ∙ c.if-not-is_decimal.false) c.in_default.ensures.value.0 in
     sym refused

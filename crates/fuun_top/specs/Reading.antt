@@ -1,0 +1,94 @@
+-- What a request reads: its files one after another, each to its end and then judged. The first refusal decides.
+use Rattle.std.specs.Prelude.{ℕ, ◌^◌, if◌then◌else◌, Option, Some, None, Result, Ok, Err, List, [], ◌∷◌, ◌++◌, length, nat_lt}
+use Rattle.std.specs.Option.{option_map}
+use Rattle.fuun_base.specs.declared.letters.Base.{Base}
+use Rattle.fuun_base.specs.DnaFile.{bases, first_other}
+use Rattle.fuun_base.specs.RnaFile.{commands, first_bad}
+use Rattle.fuun_top.specs.declared.inputs.Inputs.{Inputs}
+use Rattle.fuun_top.specs.declared.inputs.Inputs.TheVariants as inputs
+use Rattle.fuun_top.specs.declared.inputs.Plain.TheVariants as plain
+use Rattle.fuun_top.specs.declared.status.InFile.{InFile}
+use Rattle.fuun_top.specs.declared.status.InFile.TheVariants as file
+use Rattle.fuun_top.specs.declared.status.Status.{Status}
+use Rattle.fuun_top.specs.declared.status.Status.TheVariants.{BadBase, BadRna, InputTooLong, StartTooLong}
+use Rattle.fuun_top.specs.Words.{RunWords, Request, Run, Rna}
+
+-- the contents of files by name, where they are told
+abbrev pub Files : Type 0
+Files = List ℕ → Option (List ℕ)
+
+-- the most bytes that a file may have
+abbrev pub most_bytes : ℕ
+most_bytes = 2 ^ 26
+
+-- the name of the prefix file, where there is one
+abbrev pub prefix_files : Option (List ℕ) → List (List ℕ)
+prefix_files None = []
+prefix_files (Some name) = name ∷ []
+
+-- the names of the files of a run
+abbrev pub run_files : RunWords → List (List ℕ)
+run_files words = words.dna ∷ prefix_files words.prefix
+
+-- the names of the files that a request reads, in order
+abbrev pub files_of : Request → List (List ℕ)
+files_of (Run verb words) = run_files words
+files_of (Rna verb name) = name ∷ []
+
+-- what is read: none where contents that it needs are not told, else a value or a refusal
+abbrev pub Reading : Type 0 → Type 0
+Reading A = Option (Result A Status)
+
+-- one reading, and then another that may depend on it
+abbrev pub then_read : {A B : Type 0} → Reading A → (A → Reading B) → Reading B
+then_read None next = None
+then_read (Some (Err status)) next = Some (Err status)
+then_read (Some (Ok value)) next = next value
+
+-- a value, unless there is a refusal
+abbrev pub unless_refused : {A : Type 0} → Option Status → A → Result A Status
+unless_refused (Some status) value = Err status
+unless_refused None value = Ok value
+
+-- the bytes of a file that is not too long
+abbrev pub within : InFile → List ℕ → Result (List ℕ) Status
+within in_file contents = if nat_lt most_bytes (length contents) then Err (InputTooLong in_file) else Ok contents
+
+abbrev pub bytes_in : Files → InFile → List ℕ → Reading (List ℕ)
+bytes_in files in_file name = option_map (within in_file) (files name)
+
+-- the bases of a DNA file
+abbrev pub judged_dna : InFile → List ℕ → Result (List Base) Status
+judged_dna in_file contents = unless_refused (option_map (BadBase in_file) (first_other contents)) (bases contents)
+
+abbrev pub dna_in : Files → InFile → List ℕ → Reading (List Base)
+dna_in files in_file name = then_read (bytes_in files in_file name) (λ contents. Some (judged_dna in_file contents))
+
+-- the bases of the prefix file: none without one
+abbrev pub prefix_in : Files → Option (List ℕ) → Reading (List Base)
+prefix_in files None = Some (Ok [])
+prefix_in files (Some name) = dna_in files file.Prefix name
+
+-- the commands of an RNA file
+abbrev pub judged_rna : List ℕ → Result (List (List Base)) Status
+judged_rna contents = unless_refused (option_map BadRna (first_bad contents)) (commands contents)
+
+abbrev pub rna_in : Files → List ℕ → Reading (List (List Base))
+rna_in files name = then_read (bytes_in files file.Rna name) (λ contents. Some (judged_rna contents))
+
+-- the DNA that a run starts from
+abbrev pub started : ℕ → List Base → Result (List Base) Status
+started limit dna = if nat_lt limit (length dna) then Err StartTooLong else Ok dna
+
+abbrev pub start_in : Files → RunWords → Reading (List Base)
+start_in files words =
+    then_read (dna_in files file.Dna words.dna) (λ dna.
+    then_read (prefix_in files words.prefix) (λ prefix.
+    Some (started words.limit (prefix ++ dna))))
+
+-- the inputs of a request
+abbrev pub inputs_of : Files → Request → Reading Inputs
+inputs_of files (Run verb words) =
+    then_read (start_in files words) (λ dna. Some (Ok (inputs.Run verb dna words.budget words.limit)))
+inputs_of files (Rna verb name) =
+    then_read (rna_in files name) (λ commands. Some (Ok (inputs.Plain (plain.Rna verb commands))))

@@ -1,0 +1,39 @@
+-- What each function that reads promises.
+use Rattle.std.specs.Prelude.{◌≡◌, ◌≢◌, ◌⊎◌, ℕ, ◌+◌, ◌^◌, ◌≤◌, Result, Err, List, IfOk, IfErr, IfSome, length}
+use Rattle.fuun_io.specs.Counts.{raised, Rose}
+use Rattle.fuun_top.specs.declared.inputs.Inputs.{Inputs}
+use Rattle.fuun_top.specs.declared.inputs.Inputs.TheVariants as inputs
+use Rattle.fuun_top.specs.declared.status.InFile.{InFile}
+use Rattle.fuun_top.specs.declared.status.Status.{Status}
+use Rattle.fuun_top.specs.declared.status.Status.TheVariants.{InputTooLong, ReadFault, NoMemory}
+use Rattle.fuun_top.specs.Answer.{told_bytes}
+use Rattle.fuun_top.specs.Reading.{Files, Reading, most_bytes}
+use Rattle.fuun_top.specs.Stages.{stage_of, IsOfInputs}
+use Rattle.fuun_top.specs.Words.{Request, Run, Rna}
+
+-- contents were judged so, or memory was wanted
+pub record Judges {A : Type 0} (judged result : Result A Status) : Type 0 where
+  pub agrees : (result ≡ judged) ⊎ (result ≡ Err NoMemory)
+  pub refused : IfErr result (λ status. IsOfInputs (stage_of status))
+  pub not_fault : result ≢ Err ReadFault
+  pub not_length : (file : InFile) → result ≢ Err (InputTooLong file)
+
+-- files of these names were read in order, with what is known of their reading, and with the folder's counts before and after
+pub record Reads {A : Type 0} (files : Files) (names : List (List ℕ)) (known : Reading A) (result : Result A Status) (given_old given_new faults_old faults_new : ℕ) : Type 0 where
+  pub agrees : IfSome known (λ read. (result ≡ read) ⊎ (result ≡ Err NoMemory) ⊎ (result ≡ Err ReadFault))
+  pub refused : IfErr result (λ status. IsOfInputs (stage_of status))
+  pub given : IfOk result (λ value. raised given_old (told_bytes files names) ≤ given_new)
+  pub too_long : (file : InFile) → result ≡ Err (InputTooLong file) → raised given_old (most_bytes + 1) ≤ given_new
+  pub rises : given_old ≤ given_new
+  pub fault : result ≡ Err ReadFault → Rose faults_old faults_new
+  pub no_fault : result ≢ Err ReadFault → faults_new ≡ faults_old
+
+-- the budget and the limit of a request are ones that a machine takes
+abbrev pub IsInRange : Request → Type 0
+IsInRange (Run verb words) = (words.budget ≤ 2 ^ 40) × (1 ≤ words.limit) × (words.limit ≤ 2 ^ 40)
+IsInRange (Rna verb name) = Unit {0}
+
+-- so are those of inputs, and the DNA is within the limit
+abbrev pub AreInRange : Inputs → Type 0
+AreInRange (inputs.Run verb dna budget limit) = (budget ≤ 2 ^ 40) × (1 ≤ limit) × (limit ≤ 2 ^ 40) × (length dna ≤ limit)
+AreInRange (inputs.Plain plain) = Unit {0}

@@ -1,0 +1,48 @@
+-- Where in a call a status is decided.
+use Rattle.fuun_top.specs.declared.status.Status.{Status}
+use Rattle.fuun_top.specs.declared.status.Status.TheVariants.{Done, Usage, OutOfBudget, TooLong, BadBase, BadRna, InputTooLong, ReadFault, WriteFault, NoMemory, StartTooLong}
+
+-- the words, the reading of a file, what a file holds, the output that is defined, its writing; memory is wanted anywhere
+pub data Stage : Type 0 where
+  ByWords : Stage
+  ByReading : Stage
+  ByContents : Stage
+  ByOutput : Stage
+  ByWriting : Stage
+  ByMemory : Stage
+
+-- the stage that decides a status
+abbrev pub stage_of : Status → Stage
+stage_of Done = ByOutput
+stage_of Usage = ByWords
+stage_of OutOfBudget = ByOutput
+stage_of (TooLong attempt) = ByOutput
+stage_of (BadBase file place) = ByContents
+stage_of (BadRna line) = ByContents
+stage_of (InputTooLong file) = ByReading
+stage_of ReadFault = ByReading
+stage_of WriteFault = ByWriting
+stage_of NoMemory = ByMemory
+stage_of StartTooLong = ByContents
+
+-- nothing is written of an output that is decided so early
+abbrev pub IsBeforeOutput : Stage → Type 0
+IsBeforeOutput ByWords = Unit {0}
+IsBeforeOutput ByReading = Unit {0}
+IsBeforeOutput ByContents = Unit {0}
+IsBeforeOutput ByOutput = ⊥
+IsBeforeOutput ByWriting = ⊥
+IsBeforeOutput ByMemory = ⊥
+
+-- the reading of inputs may end so
+abbrev pub IsOfInputs : Stage → Type 0
+IsOfInputs ByWords = ⊥
+IsOfInputs ByReading = Unit {0}
+IsOfInputs ByContents = Unit {0}
+IsOfInputs ByOutput = ⊥
+IsOfInputs ByWriting = ⊥
+IsOfInputs ByMemory = Unit {0}
+
+-- a status with which no byte is written
+abbrev pub IsRefusal : Status → Type 0
+IsRefusal status = IsBeforeOutput (stage_of status)

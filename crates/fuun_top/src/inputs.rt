@@ -1,0 +1,142 @@
+// The reading room: from a request to its inputs.
+ghost use Rattle.std.specs.Prelude.{◌≡◌, ◌≤◌, ◌++◌, length, IfOk};
+ghost use Rattle.fuun_top.specs.Answer.{AreAllowed};
+ghost use Rattle.fuun_top.specs.Asked.{asked, words_of};
+ghost use Rattle.fuun_top.specs.Reading.{files_of, inputs_of, run_files, start_in, started};
+ghost use Rattle.fuun_top.specs.ReadingRoom.{AreInRange, IsInRange, Judges, Reads};
+ghost use Rattle.fuun_top.specs.Words.{Run, Rna};
+
+use crate::files::{dna_file, prefix_file, rna_file};
+use crate::request::{Request, RnaVerb, RunVerb, RunWords};
+use crate::{InFile, Status};
+use fuun_base::{BaseList, CommandList, NoMemory};
+use fuun_io::Folder;
+use std::alloc::Global;
+
+/// What a request works on.
+#[derive(Debug, Drop)]
+pub(crate) enum Inputs {
+    /// A run: the DNA that it starts from, the budget in attempts, and the greatest length of a DNA in bases.
+    Run {
+        verb: RunVerb,
+        dna: BaseList,
+        budget: u64,
+        limit: u64,
+    },
+    Plain(Plain),
+}
+
+/// What is worked on without a run. Its output always ends in `Done`.
+#[derive(Debug, Drop)]
+pub(crate) enum Plain {
+    Rna(RnaVerb, CommandList),
+}
+
+/// Reads the files that a request names, and judges each before the next is touched.
+pub(crate) fn read_inputs<F: Folder>(
+    alloc: Global,
+    folder: &mut F,
+    request: &Request<'_>,
+) -> Result<Inputs, Status>
+    requires allowed { AreAllowed (F.allows folder.old) (files_of (asked request.now)) }
+    requires in_range { IsInRange (asked request.now) }
+    ensures reads { Reads (F.contents folder.old) (files_of (asked request.now))
+        (inputs_of (F.contents folder.old) (asked request.now))
+        result (F.given folder.old) (F.given folder.new) (F.faults folder.old) (F.faults folder.new) }
+    ensures in_range { IfOk result AreInRange }
+{
+    match request {
+        Request::Run(verb, words) => read_run(alloc, folder, *verb, words),
+        Request::Rna(verb, name) => read_commands(alloc, folder, *verb, name),
+    }
+}
+
+/// Reads the files of a run.
+fn read_run<F: Folder>(
+    alloc: Global,
+    folder: &mut F,
+    verb: RunVerb,
+    words: &RunWords<'_>,
+) -> Result<Inputs, Status>
+    requires allowed { AreAllowed (F.allows folder.old) (files_of (Run verb (words_of words.now))) }
+    requires in_range { IsInRange (Run verb (words_of words.now)) }
+    ensures reads { Reads (F.contents folder.old) (files_of (Run verb (words_of words.now)))
+        (inputs_of (F.contents folder.old) (Run verb (words_of words.now)))
+        result (F.given folder.old) (F.given folder.new) (F.faults folder.old) (F.faults folder.new) }
+    ensures in_range { IfOk result AreInRange }
+{
+    match read_start(alloc, folder, words) {
+        Ok(dna) => Ok(Inputs::Run {
+            verb,
+            dna,
+            budget: words.budget,
+            limit: words.limit,
+        }),
+        Err(status) => Err(status),
+    }
+}
+
+/// The DNA that a run starts from: the bases of the prefix and those of the DNA file, which is read first.
+fn read_start<F: Folder>(
+    alloc: Global,
+    folder: &mut F,
+    words: &RunWords<'_>,
+) -> Result<BaseList, Status>
+    requires { AreAllowed (F.allows folder.old) (run_files (words_of words.now)) }
+    ensures reads { Reads (F.contents folder.old) (run_files (words_of words.now))
+        (start_in (F.contents folder.old) (words_of words.now))
+        result (F.given folder.old) (F.given folder.new) (F.faults folder.old) (F.faults folder.new) }
+    ensures within { IfOk result (λ dna. length dna ≤ words.now.limit) }
+{
+    let dna = match dna_file(alloc, folder, words.dna, InFile::Dna) {
+        Ok(dna) => dna,
+        Err(status) => return Err(status),
+    };
+    match prefix_file(alloc, folder, words) {
+        Ok(prefix) => start(alloc, prefix, dna, words.limit),
+        Err(status) => Err(status),
+    }
+}
+
+/// A prefix and a DNA as one, where that is within the limit.
+fn start(alloc: Global, prefix: BaseList, dna: BaseList, limit: u64) -> Result<BaseList, Status>
+    ensures judges { Judges (started limit (prefix ++ dna)) result }
+    ensures within { IfOk result (λ start. length start ≤ limit) }
+{
+    match joined(alloc, prefix, dna) {
+        Ok(start) if start.len() as u64 <= limit => Ok(start),
+        Ok(_) => Err(Status::StartTooLong),
+        Err(NoMemory) => Err(Status::NoMemory),
+    }
+}
+
+/// The bases of a prefix followed by those of a DNA.
+fn joined(alloc: Global, prefix: BaseList, dna: BaseList) -> Result<BaseList, NoMemory>
+    ensures { IfOk result (λ bases. bases ≡ prefix ++ dna) }
+{
+    if prefix.is_empty() {
+        return Ok(dna);
+    }
+    let mut bases = Vec::from_slice(alloc, prefix.as_slice())?;
+    bases.extend_from_slice(dna.as_slice())?;
+    Ok(BaseList::from_vec(bases))
+}
+
+/// Reads the file of commands that a verb works on.
+fn read_commands<F: Folder>(
+    alloc: Global,
+    folder: &mut F,
+    verb: RnaVerb,
+    name: &str,
+) -> Result<Inputs, Status>
+    requires { AreAllowed (F.allows folder.old) (files_of (Rna verb name.now)) }
+    ensures reads { Reads (F.contents folder.old) (files_of (Rna verb name.now))
+        (inputs_of (F.contents folder.old) (Rna verb name.now))
+        result (F.given folder.old) (F.given folder.new) (F.faults folder.old) (F.faults folder.new) }
+    ensures in_range { IfOk result AreInRange }
+{
+    match rna_file(alloc, folder, name) {
+        Ok(commands) => Ok(Inputs::Plain(Plain::Rna(verb, commands))),
+        Err(status) => Err(status),
+    }
+}
