@@ -50,15 +50,15 @@ pub record BeginsWith (d : List Base) (budget limit : ℕ) (attempts : List Atte
   pub front : run.attempts ≡ attempts ++ left
 
 -- the run has exactly these attempts
-record RunOf (d : List Base) (budget limit : ℕ) (attempts : List Attempt) (end : RunEnd) (dna : List Base) : Type 0 where
-  run : Run
-  is : IsRun d budget limit run
-  all : run.attempts ≡ attempts
-  ends : run.end ≡ end
-  gives : run.rna ≡ rna_of attempts
-  behind : run.dna ≡ dna
+pub record RunOf (d : List Base) (budget limit : ℕ) (attempts : List Attempt) (end : RunEnd) (dna : List Base) : Type 0 where
+  pub run : Run
+  pub is : IsRun d budget limit run
+  pub all : run.attempts ≡ attempts
+  pub ends : run.end ≡ end
+  pub gives : run.rna ≡ rna_of attempts
+  pub behind : run.dna ≡ dna
 
-begins_with_all : (d : List Base) (budget limit : ℕ) (attempts : List Attempt) (end : RunEnd) (dna : List Base) → RunOf d budget limit attempts end dna → BeginsWith d budget limit attempts
+pub begins_with_all : (d : List Base) (budget limit : ℕ) (attempts : List Attempt) (end : RunEnd) (dna : List Base) → RunOf d budget limit attempts end dna → BeginsWith d budget limit attempts
 begins_with_all d budget limit attempts end dna x = record { run = x.run; is = x.is; left = []; front = x.all ∙ sym (append-nil attempts) }
 
 -- no fewer attempts are made in the run
@@ -79,7 +79,7 @@ pub record IsMade {Taker : Type 0} (follows : Taker → List (List Base) → Tak
   pub few : taken new_taker ≤ taken old_taker + 2 ^ 41 * number
 
 module _ {Taker : Type 0} (follows within : Taker → List (List Base) → Taker → Type 0) (faults taken : Taker → ℕ) where
-  pub none_made : ((a : Taker) → follows a [] a) → (taker : Taker) (state : State) → IsLimited state → IsMade follows faults taken taker taker state state 0
+  unfoldable pub none_made : ((a : Taker) → follows a [] a) → (taker : Taker) (state : State) → IsLimited state → IsMade follows faults taken taker taker state state 0
   none_made stays taker state limited = record {
     attempts = [];
     leads = refl;
@@ -91,7 +91,7 @@ module _ {Taker : Type 0} (follows within : Taker → List (List Base) → Taker
     few = omega arith;
   }
 
-  pub one_more : GoesOn follows → (old_taker taker new_taker : Taker) (old state new : State) (number : ℕ) (report : Report) → IsMade follows faults taken old_taker taker old state number
+  unfoldable pub one_more : GoesOn follows → (old_taker taker new_taker : Taker) (old state new : State) (number : ℕ) (report : Report) → IsMade follows faults taken old_taker taker old state number
       → MakesAttempt follows taker new_taker state new report → new.limit ≡ state.limit → IsLimited new → run_end report.outcome number ≡ None
       → faults new_taker ≡ faults taker → taken new_taker ≤ taken taker + 2 ^ 41
       → IsMade follows faults taken old_taker new_taker old new (number + 1)
@@ -110,7 +110,7 @@ module _ {Taker : Type 0} (follows within : Taker → List (List Base) → Taker
         few = let before = made.few in omega arith;
       }
 
-  spent_run : (old_taker new_taker : Taker) (old new : State) (budget : ℕ) (made : IsMade follows faults taken old_taker new_taker old new budget) → RunOf old.dna budget old.limit made.attempts Budget new.dna
+  pub spent_run : (old_taker new_taker : Taker) (old new : State) (budget : ℕ) (made : IsMade follows faults taken old_taker new_taker old new budget) → RunOf old.dna budget old.limit made.attempts Budget new.dna
   spent_run old_taker new_taker old new budget made = record {
     run = record { end = Budget; attempts = made.attempts; rna = rna_of made.attempts; dna = new.dna };
     is = record { leads = made.leads; all = made.count; rna = refl };
@@ -147,7 +147,7 @@ module _ {Taker : Type 0} (follows within : Taker → List (List Base) → Taker
   one_more_takes old_taker taker new_taker old state number made attempt most =
       let few = made.few in let count = made.count in omega (arith, length-append made.attempts (attempt ∷ []))
 
-  ended_run : (old_taker taker new_taker : Taker) (old state new : State) (budget number : ℕ) (report : Report) (end : RunEnd) (made : IsMade follows faults taken old_taker taker old state number)
+  pub ended_run : (old_taker taker new_taker : Taker) (old state new : State) (budget number : ℕ) (report : Report) (end : RunEnd) (made : IsMade follows faults taken old_taker taker old state number)
       (step : MakesAttempt follows taker new_taker state new report) → run_end report.outcome number ≡ Some end → number < budget
       → RunOf old.dna budget old.limit (made.attempts ++ step.attempt ∷ []) end new.dna
   ended_run old_taker taker new_taker old state new budget number report end made step some allowed =
@@ -198,7 +198,7 @@ module _ {Taker : Type 0} (follows within : Taker → List (List Base) → Taker
       (begins_with_all old.dna budget old.limit (made.attempts ++ step.attempt ∷ []) end new.dna (ended_run old_taker taker new_taker old state new budget number report end made step some allowed))
       (one_more_takes old_taker taker new_taker old state number made step.attempt most)
 
-  pub run_breaks_off : GoesWithin follows within → Widens within → (old_taker taker new_taker : Taker) (old state new : State) (budget number : ℕ) → IsMade follows faults taken old_taker taker old state number
+  unfoldable pub run_breaks_off : GoesWithin follows within → Widens within → (old_taker taker new_taker : Taker) (old state new : State) (budget number : ℕ) → IsMade follows faults taken old_taker taker old state number
       → number < budget → StandsWithinAttempt within taker new_taker state → new ≡ state → BreaksOff follows within old_taker new_taker old new budget
   run_breaks_off goes_within widens old_taker taker new_taker old state new budget number made allowed part same =
       let is : IsAttempt state.dna old.limit part.attempt = subst (λ n. IsAttempt state.dna n part.attempt) made.same_limit part.is in
@@ -226,7 +226,7 @@ module _ {Taker : Type 0} (follows within : Taker → List (List Base) → Taker
             (goes_within old_taker taker new_taker (rna_of made.attempts) (part.attempt.rna ++ rest.more) made.gave (widens taker new_taker part.attempt.rna rest.more part.stands));
       }
 
-  broken_begins : (old_taker new_taker : Taker) (old new : State) (budget : ℕ) (x : BreaksOff follows within old_taker new_taker old new budget) → BeginsWith old.dna budget old.limit (x.made ++ x.part.attempt ∷ [])
+  pub broken_begins : (old_taker new_taker : Taker) (old new : State) (budget : ℕ) (x : BreaksOff follows within old_taker new_taker old new budget) → BeginsWith old.dna budget old.limit (x.made ++ x.part.attempt ∷ [])
   broken_begins old_taker new_taker old new budget x = record {
     run = x.run;
     is = x.is;

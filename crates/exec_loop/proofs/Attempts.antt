@@ -10,7 +10,7 @@ use Rattle.dna_reader.proofs.ReadingLemmas.{has_reading, one_reading}
 use Rattle.dna_reader.proofs.TableLemmas.{pattern_fits, template_fits, patterns_are_balanced}
 use Rattle.matcher.specs.Match.{IsMatch, last_place}
 use Rattle.matcher.specs.Groups.{AreGroups}
-use Rattle.replacer.specs.Replacement.{replaced}
+use Rattle.replacer.specs.Replacement.{texts_of, replaced}
 use Rattle.exec_loop.specs.Attempt.{Ending, Matched, NoMatch, TooLong, Finished, Attempt, ReadsBoth, PatternRanOut, TemplateRanOut, ReadingRanOut, FindsNone, Rewrites, EndsBy, IsAttempt}
 use Rattle.exec_loop.proofs.Matches.{match_is_one, match_or_none}
 use Rattle.exec_loop.proofs.Grouping.{groups_exist}
@@ -249,6 +249,15 @@ rewrite_is_one d a b stop stop' next next' x y =
       same_stop = stops;
       same_next = x.puts ∙ same_replaced x.rest y.rest a.template b.template x.groups y.groups stop stop' both.same_rest same.template groups stops ∙ sym y.puts;
     }
+
+-- an attempt that matched has its groups only once
+pub same_groups : (d : List Base) (attempt : Attempt) (stop : ℕ) (next : List Base) (x y : Rewrites d attempt stop next) → texts_of x.rest x.groups ≡ texts_of y.rest y.groups
+same_groups d attempt stop next x y =
+    let both : IsSameBoth attempt attempt x.rest y.rest = both_is_one d attempt attempt x.rest y.rest x.reads y.reads in
+    let match : IsMatch x.rest attempt.pattern y.places = subst (λ r. IsMatch r attempt.pattern y.places) (sym both.same_rest) y.match in
+    let places : x.places ≡ y.places = match_is_one x.rest attempt.pattern x.places y.places x.match match in
+    let grouped : AreGroups attempt.pattern x.places y.groups = subst (λ p. AreGroups attempt.pattern p y.groups) (sym places) y.grouped in
+    ap (λ r. texts_of r x.groups) both.same_rest ∙ ap (texts_of y.rest) (one_list_of_groups attempt.pattern x.places x.groups y.groups x.grouped grouped)
 
 none_or_rewrites : (d : List Base) (a b : Attempt) (next : List Base) (stop : ℕ) (other : List Base) → FindsNone d a next → Rewrites d b stop other → ⊥
 none_or_rewrites d a b next stop other x y =

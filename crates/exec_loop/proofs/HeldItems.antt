@@ -19,6 +19,7 @@ use Rattle.matcher.specs.Match.{Leads, LeadThrough, IsMatch, HasNoMatch}
 use Rattle.matcher.specs.Groups.{IsPartner, IsGroup, AreGroups}
 use Rattle.matcher.specs.Found.{moved}
 use Rattle.replacer.specs.Replacement.{text_of, put_by, replacement, texts_of, replaced}
+use Rattle.replacer.specs.Weight.{quoted_at, quoted_by, quoted_bases}
 
 -- matches
 
@@ -249,6 +250,42 @@ replaced_alike d items ranges stop few =
     let number : length texts ≡ length ranges = length-map ranges (λ (range : ℕ × ℕ). slice_range d range.0 range.1) in
     alike_append (replacement texts (held_template items)) (replacement texts items) (drop stop d) (drop stop d) (replacement_alike texts items (omega arith)) (inl refl)
 
+-- what is quoted
+
+quoted_above : (level : ℕ) (text : List Base) → 0 < level → quoted_at level text ≡ length (protect level text)
+quoted_above zero text above = absurd (omega arith)
+quoted_above (suc level) text above = refl
+
+level_quoted : (level : ℕ) (text : List Base) → length (protect (held level) text) ≤ 2 ^ 40 → quoted_at (held level) text ≡ quoted_at level text
+level_quoted level text short =
+    elim (cases_lt (2 ^ 63) level) [
+      | inr small ↦ ap (λ n. quoted_at n text) (held_small level small)
+      | inl great ↦
+          let is : held level ≡ 2 ^ 63 = held_great level (omega arith) in
+          elim (cases_lt 0 (length text)) [
+            | inl some ↦ let long = long_by_level (held level) text (omega arith) some in absurd (omega arith)
+            | inr none ↦
+                let empty : text ≡ [] = none_of_length text (omega arith) in
+                let nothing : protect (held level) text ≡ protect level text =
+                subst (λ e. protect (held level) e ≡ protect level e) (sym empty) (protect_of-nil (held level) ∙ sym (protect_of-nil level)) in
+                quoted_above (held level) text (omega arith) ∙ ap length nothing ∙ sym (quoted_above level text (omega arith))
+          ]
+    ]
+
+item_quoted : (texts : List (List Base)) (item : TplItem) → length texts < 2 ^ 63 → length (put_by texts (held_template_item item)) ≤ 2 ^ 40 → quoted_by texts (held_template_item item) ≡ quoted_by texts item
+item_quoted texts (TplLiteral b) few short = refl
+item_quoted texts (Group n level) few short =
+    let same : text_of texts (held n) ≡ text_of texts n = text_held texts n few in
+    ap (quoted_at (held level)) same ∙ level_quoted level (text_of texts n) (subst (λ e. length (protect (held level) e) ≤ 2 ^ 40) same short)
+item_quoted texts (Len n) few short = refl
+
+-- a replacement that is short quotes the same with the numbers as they were read
+pub quoted_held : (texts : List (List Base)) (items : List TplItem) → length texts < 2 ^ 63 → length (replacement texts (held_template items)) ≤ 2 ^ 40 → quoted_bases texts (held_template items) ≡ quoted_bases texts items
+quoted_held texts [] few short = refl
+quoted_held texts (item ∷ items) few short =
+    let parts = length-append (put_by texts (held_template_item item)) (replacement texts (held_template items)) in
+    omega (arith, item_quoted texts item few (omega (arith, parts)), quoted_held texts items few (omega (arith, parts)))
+
 -- places that are counted from further back
 
 range_moved : (d : List Base) (place lo hi : ℕ) → slice_range d (place + lo) (place + hi) ≡ slice_range (drop place d) lo hi
@@ -256,7 +293,7 @@ range_moved d place lo hi =
     let count : place + hi - (place + lo) ≡ hi - lo = omega arith in
     ap (λ n. take n (drop (place + lo) d)) count ∙ ap (take (hi - lo)) (sym (drop-drop lo place d))
 
-texts_moved : (d : List Base) (place : ℕ) (ranges : List (ℕ × ℕ)) → texts_of d (map (moved place) ranges) ≡ texts_of (drop place d) ranges
+pub texts_moved : (d : List Base) (place : ℕ) (ranges : List (ℕ × ℕ)) → texts_of d (map (moved place) ranges) ≡ texts_of (drop place d) ranges
 texts_moved d place [] = refl
 texts_moved d place (range ∷ ranges) =
     ap (λ x. x ∷ texts_of d (map (moved place) ranges)) (range_moved d place range.0 range.1)

@@ -2,8 +2,10 @@ pub mod Matches
 pub mod Grouping
 pub mod Attempts
 pub mod Runs
+pub mod Weighing
 pub mod HeldItems
 pub mod Lifting
 pub mod Parts
 pub mod AttemptByAttempt
+pub mod RunTicks
 pub mod Worked

@@ -1,5 +1,5 @@
 -- From the parts of an attempt to the whole.
-use Rattle.std.proofs.Common.{◌≡◌, ℕ, ◌+◌, ◌-◌, ◌^◌, ◌≤◌, inr, Option, Some, None, List, [], ◌++◌, length, drop, arith, refl, sym, ap, subst, ◌∙◌, append-nil}
+use Rattle.std.proofs.Common.{◌≡◌, ℕ, ◌+◌, ◌*◌, ◌-◌, ◌^◌, ◌≤◌, inr, Option, Some, None, List, [], ◌++◌, length, drop, arith, refl, sym, ap, subst, ◌∙◌, append-nil}
 use Rattle.std.specs.Prelude.{unwrap_or, Result, Ok, Err, IfOk, OnErr}
 use Rattle.std.specs.Option.{option_map}
 use Rattle.std.proofs.lemmas.List.{length-map}
@@ -11,7 +11,8 @@ use Rattle.dna_reader.specs.Reading.{rna_in}
 use Rattle.dna_reader.specs.Tables.{ReadsPattern, ReadsTemplate}
 use Rattle.dna_reader.specs.Taking.{PatternIsRead, TemplateIsRead, RanOutTaking, StandsWithin}
 use Rattle.matcher.specs.Found.{MatchesAt}
-use Rattle.replacer.specs.Replacement.{replaced}
+use Rattle.replacer.specs.Replacement.{texts_of, replaced}
+use Rattle.replacer.specs.Weight.{weight, quoted_bases}
 use Rattle.exec_loop.specs.declared.machine.Outcome.{Outcome}
 use Rattle.exec_loop.specs.declared.machine.Outcome.TheVariants as outcome
 use Rattle.exec_loop.specs.declared.machine.Report.{Report}
@@ -20,9 +21,11 @@ use Rattle.exec_loop.specs.Attempt.{Finished}
 use Rattle.exec_loop.specs.State.{State, IsLimited}
 use Rattle.exec_loop.specs.Made.{MakesAttempt, StandsWithinAttempt}
 use Rattle.exec_loop.specs.Readings.{BothAreRead, OneRanOut}
-use Rattle.exec_loop.specs.Rewriting.{ReplacesAt, ComesTo, ComesToState}
-use Rattle.exec_loop.proofs.Attempts.{AttemptWith, AttemptOf, attempt_of_pattern, attempt_of_template, attempt_read}
-use Rattle.exec_loop.proofs.Lifting.{IsLifted, lifted, behind_is}
+use Rattle.exec_loop.specs.Rewriting.{ComesTo, ComesToState, ItemsTick, ByCut, ByMatch}
+use Rattle.exec_loop.specs.Weights.{Weighs, TicksForAttempt}
+use Rattle.exec_loop.proofs.Attempts.{AttemptWith, AttemptOf, attempt_of_pattern, attempt_of_template, attempt_read, one_attempt}
+use Rattle.exec_loop.proofs.Lifting.{IsLifted, lifted, behind_is, matched_weighs}
+use Rattle.exec_loop.proofs.Weighing.{one_weight, cut_weighs}
 
 pub on_err : {T E : Type 0} (r : Result T E) (P : Type 0) → P → OnErr r P
 on_err (Ok x) P p = tt
@@ -142,17 +145,6 @@ module _ {Taker : Type 0} (follows within : Taker → List (List Base) → Taker
     taken = x.taken;
   }
 
--- a match at a place, with the replacement that was made of it
-pub replaces_at : (d : List Base) (place : ℕ) (pattern : List PatItem) (template : List TplItem) (stop : ℕ) (groups : List (ℕ × ℕ)) (next : List Base)
-    → MatchesAt d place pattern stop groups → next ≡ replaced d template groups stop → ReplacesAt d place pattern template (stop - place) next
-replaces_at d place pattern template stop groups next x puts =
-    let back : stop ≡ place + (stop - place) = let h = x.stops in omega arith in
-    record {
-      groups = groups;
-      matches = subst (λ n. MatchesAt d place pattern n groups) back x;
-      puts = puts ∙ ap (λ n. replaced d template groups n) back;
-    }
-
 module _ {S : Type 0} (bases : S → List Base) (old new : State) (d : List Base) (limit place : ℕ) (pattern : List PatItem) (template : List TplItem) (outcome : Outcome) (next : Option S) (was : old ≡ state d limit)
     (comes : ComesTo d place limit pattern template outcome (option_map bases next)) where
   comes_to : ComesTo old.dna place old.limit pattern template outcome (option_map bases next)
@@ -198,3 +190,33 @@ module _ {Taker : Type 0} (follows within : Taker → List (List Base) → Taker
 
 pub put_fits : (limit len : ℕ) (next made : List Base) → next ≡ made → len ≡ length made → len ≤ limit → length next ≤ limit
 put_fits limit len next made is number within = omega (arith, ap length is)
+
+-- the steps that come of the items are within what the attempt weighs
+pub step_ticks : {Taker : Type 0} (follows : Taker → List (List Base) → Taker → Type 0) (height : ℕ) (before : State) (d : List Base) → before.dna ≡ d → IsLimited before
+    → (old new : Taker) (pattern : List PatItem) (template : List TplItem) (place : ℕ) (old_steps new_steps : ℕ)
+    → BothAreRead follows old new d pattern template place → length pattern ≤ length d
+    → ItemsTick before.dna place before.limit pattern template height old_steps new_steps
+    → TicksForAttempt height before old_steps new_steps
+step_ticks follows height before d is limited old new pattern template place old_steps new_steps read few (ByCut ticks) attempt number made weighs =
+    let within = cut_weighs height before.dna attempt number weighs in
+    let grows : old_steps ≤ new_steps = ticks.0 in
+    let most : new_steps ≤ old_steps + 64 * (height + 1) = ticks.1 in (grows, omega arith)
+step_ticks follows height before d is limited old new pattern template place old_steps new_steps read few (ByMatch stop groups matches within ticks) attempt number made weighs =
+    let fits = limited.within in let most = limited.most in
+    let same : length before.dna ≡ length d = ap length is in
+    let x : BothAreRead follows old new before.dna pattern template place = subst (λ e. BothAreRead follows old new e pattern template place) (sym is) read in
+    let count : length pattern ≡ length x.items = ap length x.pattern_held ∙ length-map x.items held_pattern_item in
+    let found : MatchesAt before.dna place (held_pattern x.items) stop groups = subst (λ p. MatchesAt before.dna place p stop groups) x.pattern_held matches in
+    let short : length (replaced before.dna (held_template x.puts) groups stop) ≤ before.limit = subst (λ t. length (replaced before.dna t groups stop) ≤ before.limit) x.template_held within in
+    let w = matched_weighs before.dna x.items x.puts x.pattern_rna x.template_rna x.middle place x.reads_pattern x.reads_template (omega arith) (omega arith) before.limit height stop groups most found short in
+    let quoted : List TplItem → ℕ = λ t. weight (length t) (quoted_bases (texts_of before.dna groups) t) height in
+    let one : attempt ≡ w.0 = one_attempt before.dna before.limit attempt w.0 made w.1 in
+    let number_is : number ≡ quoted template =
+    one_weight height before.dna w.0 number (quoted (held_template x.puts)) (subst (λ a. Weighs height before.dna a number) one weighs) w.2 ∙ ap quoted (sym x.template_held) in
+    let grows : old_steps ≤ new_steps = ticks.0 in
+    let bound : new_steps ≤ old_steps + (quoted template - 64 * (height + 1)) = ticks.1 in (grows, omega arith)
+
+pub ticks_there : (bound : ℕ → ℕ) (old : State) (d : List Base) (limit place : ℕ) (pattern : List PatItem) (template : List TplItem) (old_steps new_steps : ℕ) → old ≡ state d limit
+    → ItemsTick d place limit pattern template (bound limit) old_steps new_steps → ItemsTick old.dna place old.limit pattern template (bound old.limit) old_steps new_steps
+ticks_there bound old d limit place pattern template old_steps new_steps is ticks =
+    subst (λ (s : State). ItemsTick s.dna place s.limit pattern template (bound s.limit) old_steps new_steps) (sym is) ticks

@@ -2,6 +2,7 @@ pub mod Attempt
 pub mod Run
 pub mod State
 pub mod Made
+pub mod Weights
 pub mod Laws
 pub mod Readings
 pub mod Rewriting

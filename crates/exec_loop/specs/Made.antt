@@ -1,5 +1,5 @@
 -- What one attempt leaves that was made, and what a run leaves.
-use Rattle.std.specs.Prelude.{◌≡◌, ℕ, ◌+◌, ◌*◌, ◌^◌, ◌<◌, ◌≤◌, List, ◌∷◌, ◌++◌, length}
+use Rattle.std.specs.Prelude.{◌≡◌, ℕ, ◌+◌, ◌*◌, ◌^◌, ◌<◌, ◌≤◌, List, [], ◌∷◌, ◌++◌, length}
 use Rattle.fuun_base.specs.declared.letters.Base.{Base}
 use Rattle.dna_items.specs.Held.{held_pattern, held_template}
 use Rattle.exec_loop.specs.declared.machine.Outcome.{Outcome}
@@ -62,6 +62,10 @@ pub record BreaksOff {Taker : Type 0} (follows within : Taker → List (List Bas
   pub left : List Attempt
   pub front : run.attempts ≡ made ++ part.attempt ∷ left
   pub stands : within old_taker run.rna new_taker
+
+-- the attempts of a run that broke off: those that were made, and the one in which it did
+abbrev pub tried : {Taker : Type 0} {follows within : Taker → List (List Base) → Taker → Type 0} {old_taker new_taker : Taker} {old new : State} {budget : ℕ} → BreaksOff follows within old_taker new_taker old new budget → List Attempt
+tried broken = broken.made ++ broken.part.attempt ∷ []
 
 -- a bound on what was taken: so many commands, at most, for each attempt of the run
 abbrev pub TakesForRun : ℕ → State → ℕ → ℕ → Type 0

@@ -1,11 +1,13 @@
 -- What comes of items, as they are held, on what a DNA holds from a place on.
-use Rattle.std.specs.Prelude.{◌≡◌, ℕ, ◌+◌, ◌<◌, ◌≤◌, Option, Some, None, List, length, drop, unwrap_or}
+use Rattle.std.specs.Prelude.{◌≡◌, ℕ, ◌+◌, ◌*◌, ◌<◌, ◌≤◌, Option, Some, None, List, length, drop, unwrap_or}
 use Rattle.fuun_base.specs.declared.letters.Base.{Base}
+use Rattle.fuun_base.specs.Ticks.{Ticks}
 use Rattle.dna_items.specs.declared.items.PatItem.{PatItem}
 use Rattle.dna_items.specs.declared.items.TplItem.{TplItem}
 use Rattle.matcher.specs.Match.{HasNoMatch}
 use Rattle.matcher.specs.Found.{MatchesAt}
-use Rattle.replacer.specs.Replacement.{replaced}
+use Rattle.replacer.specs.Replacement.{texts_of, replaced}
+use Rattle.replacer.specs.Weight.{quoted_bases, weight_but_a_cut}
 use Rattle.exec_loop.specs.State.{State}
 use Rattle.exec_loop.specs.declared.machine.Outcome.{Outcome}
 use Rattle.exec_loop.specs.declared.machine.Outcome.TheVariants.{Matched, NoMatch, TooLong, Finished}
@@ -30,3 +32,10 @@ pub record ComesToState (old new : State) (place : ℕ) (pattern : List PatItem)
   pub next : Option (List Base)
   pub comes : ComesTo old.dna place old.limit pattern template outcome next
   pub dna : new.dna ≡ unwrap_or next old.dna
+
+-- the steps that come of items: no more than one cut may make, or those of a replacement within the limit
+pub data ItemsTick (d : List Base) (place limit : ℕ) (pattern : List PatItem) (template : List TplItem) (height old new : ℕ) : Type 0 where
+  ByCut : Ticks old new (64 * (height + 1)) → ItemsTick d place limit pattern template height old new
+  ByMatch : (stop : ℕ) (groups : List (ℕ × ℕ)) → MatchesAt d place pattern stop groups → length (replaced d template groups stop) ≤ limit
+      → Ticks old new (weight_but_a_cut (length template) (quoted_bases (texts_of d groups) template) height)
+      → ItemsTick d place limit pattern template height old new

@@ -1,6 +1,6 @@
 //! What holds of the definitions. Each call does nothing: its clause is the law.
 ghost use Rattle.exec_loop.specs.Attempt.{IsAttempt};
-ghost use Rattle.exec_loop.specs.Laws.{HasAttempt, HasOneAttempt, HasRun, HasOneRun};
+ghost use Rattle.exec_loop.specs.Laws.{HasAttempt, HasOneAttempt, HasRun, HasOneRun, HasWeight, HasOneWeight, RunHasWeight, RunHasOneWeight};
 ghost use Rattle.exec_loop.specs.Worked.{matching_dna, matching_attempt, failing_dna, failing_attempt, finishing_dna, finishing_attempt};
 
 /// Under every limit each DNA has exactly one attempt.
@@ -13,6 +13,18 @@ pub fn one_attempt()
 pub fn one_run()
     ensures made { HasRun }
     ensures once { HasOneRun }
+{}
+
+/// Each attempt has exactly one weight.
+pub fn one_weight()
+    ensures made { HasWeight }
+    ensures once { HasOneWeight }
+{}
+
+/// The attempts of each run have exactly one weight together.
+pub fn one_weight_together()
+    ensures made { RunHasWeight }
+    ensures once { RunHasOneWeight }
 {}
 
 /// Worked attempts: one that matches, one that does not, and one that finishes.

@@ -1,7 +1,8 @@
-ghost use Rattle.std.specs.Prelude.{◌≡◌, ◌≤◌, ◌^◌, length, drop, All, IfOk};
+ghost use Rattle.std.specs.Prelude.{◌≡◌, ◌+◌, ◌*◌, ◌≤◌, ◌^◌, length, drop, All, IfOk};
 ghost use Rattle.std.specs.Option.{option_map};
 ghost use Rattle.dna_items.specs.Balance.{IsBalanced};
-ghost use Rattle.exec_loop.specs.Rewriting.{ComesTo};
+ghost use Rattle.exec_loop.specs.Rewriting.{ComesTo, ItemsTick};
+ghost use Rattle.fuun_base.specs.Ticks.{Ticks};
 ghost use Rattle.matcher.specs.Found.{MatchesAt, LiesWithin};
 
 use crate::Outcome;
@@ -31,7 +32,9 @@ pub(crate) fn rewrite<S: Strand, L: Ledger>(
     requires place { items.now.place ≤ length (S.bases dna.now) }
     requires balanced { IsBalanced items.now.pattern }
     requires limit { limit ≤ 2 ^ 40 }
-    ensures { IfOk result (λ made. ComesTo (S.bases dna.now) items.now.place limit items.now.pattern items.now.template made.outcome (option_map S.bases made.next)) }
+    requires within { length (S.bases dna.now) ≤ limit }
+    ensures comes { IfOk result (λ made. ComesTo (S.bases dna.now) items.now.place limit items.now.pattern items.now.template made.outcome (option_map S.bases made.next)) }
+    ensures ticks { ItemsTick (S.bases dna.now) items.now.place limit items.now.pattern items.now.template (S.height_bound limit) steps.old steps.new }
 {
     match match_at(alloc, dna, items.place, &items.pattern)? {
         MatchEnd::Matched { stop, groups } => put(alloc, dna, limit, items, stop, &groups, steps),
@@ -53,7 +56,9 @@ fn put<S: Strand, L: Ledger>(
     requires groups { All (LiesWithin (length (S.bases dna.now))) groups.now }
     requires matches { MatchesAt (S.bases dna.now) items.now.place items.now.pattern stop groups.now }
     requires limit { limit ≤ 2 ^ 40 }
-    ensures { IfOk result (λ made. ComesTo (S.bases dna.now) items.now.place limit items.now.pattern items.now.template made.outcome (option_map S.bases made.next)) }
+    requires within { length (S.bases dna.now) ≤ limit }
+    ensures comes { IfOk result (λ made. ComesTo (S.bases dna.now) items.now.place limit items.now.pattern items.now.template made.outcome (option_map S.bases made.next)) }
+    ensures ticks { ItemsTick (S.bases dna.now) items.now.place limit items.now.pattern items.now.template (S.height_bound limit) steps.old steps.new }
 {
     let Some(_len) = replaced_len(dna, &items.template, groups, stop, limit) else {
         return Ok(Rewriting {
@@ -77,6 +82,7 @@ fn leave<S: Strand, L: Ledger>(
     requires { place ≤ length (S.bases dna.now) }
     ensures outcome { IfOk result (λ made. made.outcome ≡ Outcome.NoMatch) }
     ensures next { IfOk result (λ made. option_map S.bases made.next ≡ Some (drop place (S.bases dna.now))) }
+    ensures ticks { Ticks steps.old steps.new (64 * (S.height_bound (length (S.bases dna.now)) + 1)) }
 {
     let rest = dna.sub(place, dna.len(), steps)?;
     Ok(Rewriting {

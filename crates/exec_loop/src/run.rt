@@ -1,7 +1,8 @@
 ghost use Rattle.std.specs.Prelude.{◌≡◌, ◌≢◌, ◌^◌, ◌<◌, ◌≤◌, IfOk, OnErr};
 ghost use Rattle.exec_loop.specs.State.{IsLimited};
 ghost use Rattle.exec_loop.specs.RunEnds.{run_end};
-ghost use Rattle.exec_loop.specs.Made.{MakesRun, BreaksOff, TakesForRun};
+ghost use Rattle.exec_loop.specs.Made.{MakesRun, BreaksOff, tried, TakesForRun};
+ghost use Rattle.exec_loop.specs.Weights.{TicksFor, TicksForRun};
 ghost use Rattle.fuun_io.specs.Counts.{Rose};
 
 use crate::{Machine, Outcome, RunEnd, StepError};
@@ -25,10 +26,12 @@ impl<S: Strand> Machine<S> {
         ensures limit { self.new.limit ≡ self.old.limit }
         ensures limited { IsLimited self.new }
 
-        ensures part { OnErr result (BreaksOff T.follows T.within rna.old rna.new self.old self.new budget) }
+        ensures part { OnErr result ((broken : BreaksOff T.follows T.within rna.old rna.new self.old self.new budget)
+            × TicksFor (S.height_bound self.old.limit) self.old.dna (tried broken) steps.old steps.new) }
         ensures failed { result ≡ Err StepError.TakerFailed → Rose (T.faults rna.old) (T.faults rna.new) }
         ensures no_fault { result ≢ Err StepError.TakerFailed → T.faults rna.new ≡ T.faults rna.old }
         ensures most { TakesForRun budget self.old (T.taken rna.old) (T.taken rna.new) }
+        ensures ticks { TicksForRun (S.height_bound self.old.limit) budget self.old steps.old steps.new }
     {
         let _limit = self.limit();
         for attempt in 0..budget {

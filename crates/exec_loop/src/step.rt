@@ -1,8 +1,9 @@
 ghost use Rattle.std.specs.Prelude.{◌≡◌, ◌≢◌, ◌+◌, ◌^◌, ◌≤◌, [], length, IfOk, OnErr};
 ghost use Rattle.dna_items.specs.Balance.{IsBalanced};
-ghost use Rattle.exec_loop.specs.Rewriting.{ComesToState};
+ghost use Rattle.exec_loop.specs.Rewriting.{ComesToState, ItemsTick};
 ghost use Rattle.exec_loop.specs.State.{IsLimited};
 ghost use Rattle.exec_loop.specs.Made.{MakesAttempt, StandsWithinAttempt};
+ghost use Rattle.exec_loop.specs.Weights.{TicksForAttempt};
 ghost use Rattle.fuun_io.specs.Counts.{Rose};
 
 use crate::readings::{Items, read_both};
@@ -33,6 +34,7 @@ impl<S: Strand> Machine<S> {
         ensures failed { result ≡ Err StepError.TakerFailed → Rose (T.faults rna.old) (T.faults rna.new) }
         ensures no_fault { result ≢ Err StepError.TakerFailed → T.faults rna.new ≡ T.faults rna.old }
         ensures most { T.taken rna.new ≤ T.taken rna.old + 2 ^ 41 }
+        ensures ticks { TicksForAttempt (S.height_bound self.old.limit) self.old steps.old steps.new }
     {
         let _limit = self.limit();
         match read_both(self.alloc, &self.dna, rna) {
@@ -58,6 +60,7 @@ impl<S: Strand> Machine<S> {
         ensures limited { IsLimited self.new }
         ensures unchanged { OnErr result (self.new ≡ self.old) }
         ensures memory { OnErr result (result ≡ Err StepError.NoMemory) }
+        ensures ticks { ItemsTick self.old.dna items.place self.old.limit items.pattern items.template (S.height_bound self.old.limit) steps.old steps.new }
     {
         let rewriting = rewrite(self.alloc, &self.dna, self.limit, &items, steps)?;
         let Items {

@@ -1,7 +1,7 @@
 use Rattle.std.proofs.Common.{ap, sym}
 use Rattle.std.specs.Prelude.{Err}
 use Rattle.exec_loop.specs.State.{State}
-use Rattle.exec_loop.proofs.Parts.{on_err, step_ok, step_last, step_part}
+use Rattle.exec_loop.proofs.Parts.{on_err, step_ok, step_last, step_part, step_ticks}
 use Rattle.exec_loop.proofs.state.Machine.step.Goals as goal
 
 pub returns-in-Ok-clause-attempt : goal.returns-in-Ok-clause-attempt
@@ -16,3 +16,8 @@ returns-in-Ok-clause-part g c =
 pub returns-in-Err-RanOut-clause-attempt : goal.returns-in-Err-RanOut-clause-attempt
 returns-in-Err-RanOut-clause-attempt g c =
     step_last g.T.RnaTaker.follows g.T.RnaTaker.within c.args.self.now c.args.self.now (g.S.Strand.bases c.self.inside.dna) (ap (λ (s : State). s.dna) (sym c.self.view_is)) c.limit-limit.ensures.limited c.args.rna.now c.read_both.new.rna c.finished.result (c.in-Err-RanOut.ensures.ran_out (ap (λ e. Err e) c.in-Err-RanOut.field-0-is)) c.finished.ensures.pattern c.finished.ensures.template c.finished.ensures.outcome
+
+pub returns-in-Ok-clause-ticks : goal.returns-in-Ok-clause-ticks
+returns-in-Ok-clause-ticks g c =
+    step_ticks g.T.RnaTaker.follows (g.S.Strand.height_bound c.args.self.now.limit) c.args.self.now (g.S.Strand.bases c.self.inside.dna) (ap (λ (s : State). s.dna) (sym c.self.view_is)) c.limit-limit.ensures.limited c.args.rna.now c.read_both.new.rna
+    c.in-Ok.items.pattern c.in-Ok.items.template c.in-Ok.items.place c.args.steps.now c.put_next.new.steps c.in-Ok.ensures.read c.in-Ok.ensures.few c.put_next.ensures.ticks

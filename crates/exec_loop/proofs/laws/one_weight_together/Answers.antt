@@ -1,0 +1,8 @@
+use Rattle.exec_loop.proofs.Weighing as weighing
+use Rattle.exec_loop.proofs.laws.one_weight_together.Goals as goal
+
+pub returns-clause-made : goal.returns-clause-made
+returns-clause-made c = weighing.run_weighs
+
+pub returns-clause-once : goal.returns-clause-once
+returns-clause-once c = weighing.one_total
