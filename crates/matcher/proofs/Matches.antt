@@ -1,11 +1,10 @@
 -- A pattern has one match on a DNA at most, and it is decided whether it has one.
-use Rattle.std.proofs.Common.{◌≡◌, ℕ, zero, suc, ◌+◌, ◌<◌, ◌≤◌, ◌⊎◌, inl, inr, Some, List, [], ◌∷◌, length, arith, refl, sym, ap, subst, ◌∙◌}
-use Rattle.std.specs.Prelude.{slice_get, slice_range}
-use Rattle.std.proofs.lemmas.Bool.{cases_lt, cases_eq}
+use Rattle.std.proofs.Common.{◌≡◌, ℕ, zero, suc, ◌+◌, ◌≤◌, ◌⊎◌, inl, inr, Some, List, [], ◌∷◌, length, arith, refl, sym, ap, subst, ◌∙◌}
+use Rattle.std.specs.Prelude.{slice_get}
+use Rattle.std.proofs.lemmas.Bool.{cases_lt}
 use Rattle.std.proofs.lemmas.Option.{none-some, same_Some}
 use Rattle.fuun_base.specs.declared.letters.Base.{Base}
-use Rattle.fuun_base.specs.declared.letters.Base.TheVariants.{I, C, F, P}
-use Rattle.fuun_base.specs.Occurrence.{Stands, IsFirst, IsAbsent}
+use Rattle.fuun_base.proofs.OccurrenceLemmas.{base_or, first_or_absent}
 use Rattle.dna_items.specs.declared.items.PatItem.{PatItem}
 use Rattle.dna_items.specs.declared.items.PatItem.TheVariants.{Base as Literal, Skip, Search, GroupStart, GroupStop}
 use Rattle.matcher.specs.Laws.{AtMostOneMatch, HasMatchOrNone}
@@ -23,37 +22,6 @@ match_is_one d items (i ∷ a) (k ∷ b) x y =
 
 -- whether an item leads anywhere
 
-base_or : (a b : Base) → (a ≡ b) ⊎ (a ≡ b → ⊥)
-base_or I I = inl refl
-base_or I C = inr (λ e. cc)
-base_or I F = inr (λ e. cc)
-base_or I P = inr (λ e. cc)
-base_or C I = inr (λ e. cc)
-base_or C C = inl refl
-base_or C F = inr (λ e. cc)
-base_or C P = inr (λ e. cc)
-base_or F I = inr (λ e. cc)
-base_or F C = inr (λ e. cc)
-base_or F F = inl refl
-base_or F P = inr (λ e. cc)
-base_or P I = inr (λ e. cc)
-base_or P C = inr (λ e. cc)
-base_or P F = inr (λ e. cc)
-base_or P P = inl refl
-
-bases_or : (a b : List Base) → (a ≡ b) ⊎ (a ≡ b → ⊥)
-bases_or [] [] = inl refl
-bases_or [] (y ∷ b) = inr (λ e. cc)
-bases_or (x ∷ a) [] = inr (λ e. cc)
-bases_or (x ∷ a) (y ∷ b) =
-    elim (base_or x y) [
-      | inl same ↦ elim (bases_or a b) [
-        | inl rest ↦ inl (ap (λ z. z ∷ a) same ∙ ap (λ l. y ∷ l) rest)
-        | inr other ↦ inr (λ e. other (cc))
-      ]
-      | inr other ↦ inr (λ e. other (cc))
-    ]
-
 base_at_or : (d : List Base) (i : ℕ) (b : Base) → (slice_get d i ≡ Some b) ⊎ (slice_get d i ≡ Some b → ⊥)
 base_at_or [] i b = inr (λ e. none-some b e)
 base_at_or (x ∷ d) zero b =
@@ -62,47 +30,6 @@ base_at_or (x ∷ d) zero b =
       | inr other ↦ inr (λ e. other (same_Some x b e))
     ]
 base_at_or (x ∷ d) (suc i) b = base_at_or d i b
-
-stands_or : (s d : List Base) (place : ℕ) → Stands s d place ⊎ (Stands s d place → ⊥)
-stands_or s d place =
-    elim (cases_lt (length d) (place + length s)) [
-      | inl past ↦ inr (λ (x : Stands s d place). let within : place + length s ≤ length d = x.within in omega arith)
-      | inr within ↦ elim (bases_or (slice_range d place (place + length s)) s) [
-        | inl there ↦ inl (record { within = within; there = there })
-        | inr other ↦ inr (λ x. other x.there)
-      ]
-    ]
-
-abbrev FirstBelow : List Base → List Base → ℕ → ℕ → Type 0
-FirstBelow s d from n = (place : ℕ) × IsFirst s d from place
-
-abbrev NoneBelow : List Base → List Base → ℕ → ℕ → Type 0
-NoneBelow s d from n = (place : ℕ) → from ≤ place → place < from + n → Stands s d place → ⊥
-
-none_more : (s d : List Base) (from n : ℕ) → NoneBelow s d from n → (Stands s d (from + n) → ⊥) → NoneBelow s d from (suc n)
-none_more s d from n none here place after before stands =
-    elim (cases_eq place (from + n)) [
-      | inl same ↦ here (subst (λ m. Stands s d m) same stands)
-      | inr other ↦ none place after (omega arith) stands
-    ]
-
-first_below : (s d : List Base) (from n : ℕ) → FirstBelow s d from n ⊎ NoneBelow s d from n
-first_below s d from zero = inr (λ place after before stands. absurd (omega arith))
-first_below s d from (suc n) =
-    elim (first_below s d from n) [
-      | inl found ↦ inl found
-      | inr none ↦ elim (stands_or s d (from + n)) [
-        | inl stands ↦ inl (from + n, record { after = omega arith; stands = stands; least = λ earlier after before there. none earlier after (omega arith) there })
-        | inr not ↦ inr (none_more s d from n none not)
-      ]
-    ]
-
-first_or_absent : (s d : List Base) (from : ℕ) → ((place : ℕ) × IsFirst s d from place) ⊎ IsAbsent s d from
-first_or_absent s d from =
-    elim (first_below s d from (suc (length d))) [
-      | inl found ↦ inl found
-      | inr none ↦ inr (λ place after (stands : Stands s d place). let within : place + length s ≤ length d = stands.within in none place after (omega arith) stands)
-    ]
 
 abbrev LeadsSomewhere : List Base → PatItem → ℕ → Type 0
 LeadsSomewhere d item i = (j : ℕ) × Leads d item i j
