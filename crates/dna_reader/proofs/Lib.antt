@@ -9,3 +9,5 @@ pub mod HeldLemmas
 pub mod PieceLemmas
 pub mod StepLemmas
 pub mod EndLemmas
+pub mod CodeLemmas
+pub mod ReadableLemmas

@@ -1,5 +1,5 @@
 -- The readings that were worked out by hand are readings.
-use Rattle.std.proofs.Common.{List, [], ◌∷◌, arith}
+use Rattle.std.proofs.Common.{[], ◌∷◌, arith}
 use Rattle.fuun_base.specs.declared.letters.Base.TheVariants.{I, C, F, P}
 use Rattle.dna_reader.specs.Tables.{pattern_table, template_table}
 use Rattle.dna_reader.specs.Worked.{behind_pattern, PatternWorked, TemplateWorked, SearchWorked, CommandWorked, ShortCommandWorked, NoNumeralWorked, OpenGroupWorked}

@@ -14,3 +14,5 @@ pub mod Takers
 pub mod PieceByPiece
 pub mod Errors
 pub mod Worked
+pub mod Codes
+pub mod CodeLaws

@@ -1,4 +1,5 @@
 //! What holds of the definitions. Each call does nothing: its clause is the law.
+ghost use Rattle.dna_reader.specs.CodeLaws.{NumberIsRead, PatternCodeIsRead, OnlyReadableIsRead, TemplateCodeIsRead, PairCodeIsRead};
 ghost use Rattle.dna_reader.specs.ReadingLaws.{HasCutting, HasOneCutting, HasReading, HasOneReading, HasShortReadings, HasShortRna, PatternsAreBalanced, ConstantsAreLongest, ConstantsAreOne, NumeralByDigits};
 ghost use Rattle.dna_reader.specs.Tables.{pattern_table, template_table};
 ghost use Rattle.dna_reader.specs.Worked.{PatternWorked, TemplateWorked, SearchWorked, CommandWorked, ShortCommandWorked, NoNumeralWorked, OpenGroupWorked};
@@ -52,4 +53,26 @@ pub fn readings_worked()
     ensures short_command { ShortCommandWorked }
     ensures no_numeral { NoNumeralWorked }
     ensures open_group { OpenGroupWorked }
+{}
+
+/// A number written as bases is read again.
+pub fn number_code()
+    ensures { NumberIsRead }
+{}
+
+/// A pattern has DNA that is read as it and gives no RNA exactly where it is balanced and no search stands directly
+/// before a base: its code is such DNA.
+pub fn pattern_codes()
+    ensures read { PatternCodeIsRead }
+    ensures only { OnlyReadableIsRead }
+{}
+
+/// The code of a template is read as it, without RNA.
+pub fn template_codes()
+    ensures { TemplateCodeIsRead }
+{}
+
+/// The code of a pair is read as its pattern and then as its template, without RNA.
+pub fn pair_codes()
+    ensures { PairCodeIsRead }
 {}

@@ -1,28 +1,17 @@
 -- Lists of places that items lead through.
-use Rattle.std.proofs.Common.{◌≡◌, ℕ, ◌+◌, ◌<◌, ◌≤◌, inl, inr, List, [], ◌∷◌, ◌++◌, length, get_or, arith, refl, ap, sym, ◌∙◌, subst}
-use Rattle.std.proofs.lemmas.Bool.{cases_lt}
+use Rattle.std.proofs.Common.{◌≡◌, ℕ, ◌+◌, ◌<◌, ◌≤◌, List, [], ◌∷◌, ◌++◌, length, get_or, arith, refl, ap, sym, ◌∙◌, subst}
 use Rattle.std.proofs.lemmas.Option.{slice_get_within}
 use Rattle.fuun_base.specs.declared.letters.Base.{Base}
-use Rattle.fuun_base.specs.Occurrence.{IsFirst}
+use Rattle.fuun_base.proofs.OccurrenceLemmas.{first_is_one}
 use Rattle.dna_items.specs.declared.items.PatItem.{PatItem}
 use Rattle.dna_items.specs.declared.items.PatItem.TheVariants.{Base as Literal, Skip, Search, GroupStart, GroupStop}
 use Rattle.matcher.specs.Match.{Leads, LeadThrough, last_place}
-
-pub first_same : (s d : List Base) (i p q : ℕ) → IsFirst s d i p → IsFirst s d i q → p ≡ q
-first_same s d i p q a b =
-    elim (cases_lt p q) as (λ _. p ≡ q) [
-      | inl h ↦ absurd (b.least p a.after h a.stands)
-      | inr h ↦ elim (cases_lt q p) as (λ _. p ≡ q) [
-        | inl h' ↦ absurd (a.least q b.after h' b.stands)
-        | inr h' ↦ omega arith
-      ]
-    ]
 
 pub leads_same : (d : List Base) (item : PatItem) (i j j' : ℕ) → Leads d item i j → Leads d item i j' → j ≡ j'
 leads_same d (Literal b) i j j' x y = x.1 ∙ sym y.1
 leads_same d (Skip n) i j j' x y = x.0 ∙ sym y.0
 leads_same d (Search s) i j j' x y =
-    let e : x.0 ≡ y.0 = first_same s d i x.0 y.0 x.1 y.1 in
+    let e : x.0 ≡ y.0 = first_is_one s d i x.0 y.0 x.1 y.1 in
     x.2 ∙ ap (λ n. n + length s) e ∙ sym y.2
 leads_same d GroupStart i j j' x y = x ∙ sym y
 leads_same d GroupStop i j j' x y = x ∙ sym y
