@@ -70,6 +70,7 @@ impl Rope {
         ensures empty { IsNone result ↔ (self.now.bases ≡ []) }
         ensures none { IfNone result (self.now ≡ no_tree) }
         ensures root { IfSome result (λ node. node.now ≡ self.now) }
+        ensures most { length self.now.bases ≤ 2 ^ 41 }
     {
         self.root.as_ref()
     }
