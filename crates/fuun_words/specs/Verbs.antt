@@ -5,19 +5,16 @@ use Rattle.clap.specs.Walk.{Text}
 use Rattle.fuun_words.specs.Commands.{VerbOption}
 use Rattle.fuun_words.specs.declared.verb.Need.TheVariants.{Required, Optional}
 use Rattle.fuun_words.specs.declared.verb.Verb.{Verb}
-use Rattle.fuun_words.specs.declared.verb.Verb.TheVariants.{Rna, Image, Trace, Dna, Draw, Names, List as Pairs}
+use Rattle.fuun_words.specs.declared.verb.Verb.TheVariants.{Rna, Image, Dna, Draw}
 
 -- the verb of this name
 abbrev pub verb_of : Text → Option Verb
 verb_of word =
     if bytes_eq word (codes "rna") then Some Rna
     else (if bytes_eq word (codes "image") then Some Image
-    else (if bytes_eq word (codes "trace") then Some Trace
     else (if bytes_eq word (codes "dna") then Some Dna
     else (if bytes_eq word (codes "draw") then Some Draw
-    else (if bytes_eq word (codes "names") then Some Names
-    else (if bytes_eq word (codes "list") then Some Pairs
-    else None))))))
+    else None)))
 
 abbrev pub run_options : List VerbOption
 run_options =
@@ -29,8 +26,5 @@ options_of Rna = run_options
 options_of Image =
     (codes "dna", Required) ∷ (codes "prefix", Optional) ∷ (codes "budget", Optional) ∷ (codes "limit", Optional)
     ∷ (codes "profile", Optional) ∷ []
-options_of Trace = run_options
 options_of Dna = run_options
 options_of Draw = (codes "rna", Required) ∷ (codes "profile", Optional) ∷ []
-options_of Names = (codes "rna", Required) ∷ (codes "profile", Optional) ∷ []
-options_of Pairs = (codes "dna", Required) ∷ (codes "count", Required) ∷ []

@@ -4,7 +4,7 @@ ghost use Rattle.fuun_words.specs.Commands.{found_in};
 ghost use Rattle.fuun_words.specs.Requests.{request, request_of, run_of, texts, IsInRange, IsRunInRange, Reads};
 
 use crate::command::find_options;
-use crate::values::{MOST, budget, limit, name, profile, required_name, required_number};
+use crate::values::{budget, limit, name, profile, required_name};
 use crate::verb::Verb;
 use crate::{Request, RunWords, WordsError};
 use clap::ArgMatches;
@@ -43,19 +43,10 @@ fn request_from(alloc: Global, verb: Verb, matches: &ArgMatches<'_>) -> Result<R
             run: run_words(alloc, matches)?,
             profile: profile(matches)?,
         }),
-        Verb::Trace => Ok(Request::Trace(run_words(alloc, matches)?)),
         Verb::Dna => Ok(Request::Dna(run_words(alloc, matches)?)),
         Verb::Draw => Ok(Request::Draw {
             rna: required_name(alloc, matches, "rna")?,
             profile: profile(matches)?,
-        }),
-        Verb::Names => Ok(Request::Names {
-            rna: required_name(alloc, matches, "rna")?,
-            profile: profile(matches)?,
-        }),
-        Verb::List => Ok(Request::List {
-            dna: required_name(alloc, matches, "dna")?,
-            count: required_number(matches, "count", MOST)?,
         }),
     }
 }

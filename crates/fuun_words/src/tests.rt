@@ -75,9 +75,6 @@ fn other_words_are_refused(rt: HostRuntime) -> Result<(), Fail> {
         "image --dna a --profile Wide",
         "draw --dna a",
         "draw --rna a --profile",
-        "names --rna a --profile big",
-        "list --dna a",
-        "list --dna a --count 1099511627777",
     ] {
         assert_eq!(rt;
             asked(alloc, line)?.err(),
@@ -117,33 +114,6 @@ fn pictures_have_profiles(rt: HostRuntime) -> Result<(), Fail> {
         assert_eq!(rt; rna.as_str(), name, "at {line}");
         assert_eq!(rt; profile, wanted, "at {line}");
     }
-    Ok(())
-}
-
-#[test]
-fn other_verbs_ask(rt: HostRuntime) -> Result<(), Fail> {
-    let alloc = rt.alloc();
     assert!(rt; matches!(asked(alloc, "dna --dna=-v --limit=5")?, Ok(Request::Dna(_))));
-    assert!(rt;
-        matches!(
-            asked(alloc, "trace --dna a --budget 1")?,
-            Ok(Request::Trace(_))
-        )
-    );
-    assert!(rt;
-        matches!(
-            asked(alloc, "names --rna r --profile wide")?,
-            Ok(Request::Names {
-                profile: Profile::Wide,
-                ..
-            })
-        )
-    );
-    assert!(rt;
-        matches!(
-            asked(alloc, "list --count=007 --dna a")?,
-            Ok(Request::List { count: 7, .. })
-        )
-    );
     Ok(())
 }

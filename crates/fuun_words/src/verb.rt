@@ -8,11 +8,8 @@ ghost use Rattle.fuun_words.specs.Verbs.{verb_of, options_of};
 pub(crate) enum Verb {
     Rna,
     Image,
-    Trace,
     Dna,
     Draw,
-    Names,
-    List,
 }
 
 /// Whether a verb asks for an option.
@@ -42,8 +39,6 @@ static IMAGE: [VerbOption; 5] = [
 
 static DRAW: [VerbOption; 2] = [("rna", Need::Required), ("profile", Need::Optional)];
 
-static LIST: [VerbOption; 2] = [("dna", Need::Required), ("count", Need::Required)];
-
 impl Verb {
     /// The verb of this name.
     pub(crate) fn of(word: &str) -> Option<Verb>
@@ -52,11 +47,8 @@ impl Verb {
         match word {
             "rna" => Some(Verb::Rna),
             "image" => Some(Verb::Image),
-            "trace" => Some(Verb::Trace),
             "dna" => Some(Verb::Dna),
             "draw" => Some(Verb::Draw),
-            "names" => Some(Verb::Names),
-            "list" => Some(Verb::List),
             _ => None,
         }
     }
@@ -66,10 +58,9 @@ impl Verb {
         ensures { map option_of result.now ≡ options_of self }
     {
         match self {
-            Verb::Rna | Verb::Trace | Verb::Dna => RUN.as_slice(),
+            Verb::Rna | Verb::Dna => RUN.as_slice(),
             Verb::Image => IMAGE.as_slice(),
-            Verb::Draw | Verb::Names => DRAW.as_slice(),
-            Verb::List => LIST.as_slice(),
+            Verb::Draw => DRAW.as_slice(),
         }
     }
 }
