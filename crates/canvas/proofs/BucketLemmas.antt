@@ -43,10 +43,6 @@ pub alphas-alpha : (inks : List Ink) (ink : Ink) (a : ℕ) → alpha_of ink ≡ 
 unfolding alphas
 alphas-alpha inks ink a e = filter_map-append alpha_of inks (ink ∷ []) ∙ rw e refl
 
-pub alphas-other : (inks : List Ink) (ink : Ink) → alpha_of ink ≡ None → alphas (inks ++ ink ∷ []) ≡ alphas inks
-unfolding alphas
-alphas-other inks ink e = filter_map-append alpha_of inks (ink ∷ []) ∙ rw e (append-nil (filter_map alpha_of inks))
-
 -- there are no more colours, and no more alphas, than inks
 length-colours : (inks : List Ink) → length (colours inks) ≤ length inks
 unfolding colours

@@ -5,7 +5,7 @@ use Rattle.std.proofs.lemmas.Nat.{same_from_place, mul-add-lt}
 use Rattle.std.proofs.lemmas.List.{ext_get_or, get_or-replicate, get_or-take, get_or-drop, get_or_append_left, get_or-append_right, length-drop, length-replicate, length-take-le}
 use Rattle.std.proofs.Math.Nat.{mul-le-mul_right}
 use Rattle.std.proofs.lemmas.Bool.{cases_eq, cases_lt, cases_order}
-use Rattle.canvas.specs.Pixels.{Rgba, IsSquare, blank, pixel_at, place_of, row_of, transparent, with_pixel, with_span}
+use Rattle.canvas.specs.Pixels.{Rgba, IsSquare, pixel_at, place_of, row_of, transparent, with_pixel, with_span}
 
 -- a pixel by its channels
 same_pixel : (p q : Rgba) → p.red ≡ q.red → p.green ≡ q.green → p.blue ≡ q.blue → p.alpha ≡ q.alpha → p ≡ q
@@ -50,11 +50,6 @@ pixel_at-with_pixel_other side pixels x y u v p in_x in_u differ =
 pub IsSquare-with_pixel : (side : ℕ) (pixels : List Rgba) (x y : ℕ) (p : Rgba) → IsSquare side pixels → IsSquare side (with_pixel side pixels x y p)
 IsSquare-with_pixel side pixels x y p square =
     record { nonempty = square.nonempty; small = square.small; filled = length-set pixels (place_of side x y) p ∙ square.filled }
-
--- a new bitmap is transparent at each spot
-pub pixel_at-blank : (side x y : ℕ) → x < side → y < side → pixel_at side (blank side) x y ≡ transparent
-pixel_at-blank side x y in_x in_y =
-    get_or-replicate (side * side) (place_of side x y) transparent transparent (place_inside side x y in_x in_y)
 
 -- two bitmaps of one side that agree at each spot are equal
 pub same_bitmaps : (side : ℕ) (pixels others : List Rgba) → IsSquare side pixels → IsSquare side others → ((x y : ℕ) → x < side → y < side → pixel_at side pixels x y ≡ pixel_at side others x y) → pixels ≡ others

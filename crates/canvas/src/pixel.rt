@@ -1,6 +1,6 @@
 //! One pixel of a bitmap, and where it stands.
 
-ghost use Rattle.std.specs.Prelude.{◌≡◌, ◌≤◌};
+ghost use Rattle.std.specs.Prelude.{◌≡◌, ◌≢◌, ◌+◌, ◌*◌, ◌^◌, ◌≤◌, true, false};
 ghost use Rattle.std.specs.Option.{SomeIff};
 ghost use Rattle.canvas.specs.Pixels.{Rgba, IsPremultiplied};
 
@@ -54,6 +54,25 @@ impl Pixel {
         ensures { result ≡ record { red = r; green = g; blue = b; alpha = a } }
     {
         Pixel { r, g, b, a }
+    }
+
+    /// Whether two pixels are equal in all four channels. It compares one number, where `==` goes
+    /// from channel to channel.
+    pub fn equals(self, other: Pixel) -> bool
+        ensures equal { result ≡ true → self ≡ other }
+        ensures unequal { result ≡ false → self ≢ other }
+    {
+        self.word() == other.word()
+    }
+
+    // The four channels in one number.
+    fn word(self) -> u32
+        ensures { result ≡ self.red + self.green * 2 ^ 8 + self.blue * 2 ^ 16 + self.alpha * 2 ^ 24 }
+    {
+        u32::from(self.r)
+            + u32::from(self.g) * 256
+            + u32::from(self.b) * 65_536
+            + u32::from(self.a) * 16_777_216
     }
 
     /// The red channel.

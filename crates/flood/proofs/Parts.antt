@@ -224,10 +224,6 @@ fill_none side was now spot from to square is_from same unchanged =
     let fill : IsFill side was spot to was = record { square = square; region = λ s region. region_alike side was spot s region ∙ (sym is_from ∙ same); others = λ s inside other. refl } in
     subst P (sym unchanged) fill
 
--- a step after another
-pub Continues-none : (side : ℕ) (from to : Rgba) (now : List Rgba) (spans : List Span) → Continues side from to now spans now spans
-Continues-none side from to now spans = record { fewer = λ s inside e. e; part = λ was spot is_from part. part }
-
 pub Continues-trans : (side : ℕ) (from to : Rgba) (a b c : List Rgba) (u v w : List Span) → Continues side from to a u b v → Continues side from to b v c w → Continues side from to a u c w
 Continues-trans side from to a b c u v w first second = record {
   fewer = λ s inside e. first.fewer s inside (second.fewer s inside e);

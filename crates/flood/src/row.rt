@@ -13,7 +13,7 @@ pub(crate) fn next(row: &[Pixel], start: u32, stop: u32, pixel: Pixel) -> u32
     ensures found { result < stop → slice_index_or row.now result transparent ≡ pixel }
 {
     let mut place = start;
-    while place < stop && row[place as usize] != pixel {
+    while place < stop && !row[place as usize].equals(pixel) {
         place += 1;
     }
     place
@@ -27,7 +27,7 @@ pub(crate) fn west_end(row: &[Pixel], place: u32, pixel: Pixel) -> u32
     ensures longest { 0 < result → slice_index_or row.now (result - 1) transparent ≢ pixel }
 {
     let mut start = place;
-    while start > 0 && row[start as usize - 1] == pixel {
+    while start > 0 && row[start as usize - 1].equals(pixel) {
         start -= 1;
     }
     start
@@ -41,7 +41,7 @@ pub(crate) fn east_end(row: &[Pixel], place: u32, pixel: Pixel) -> u32
     ensures longest { result < length row.now → slice_index_or row.now result transparent ≢ pixel }
 {
     let mut stop = place;
-    while (stop as usize) < row.len() && row[stop as usize] == pixel {
+    while (stop as usize) < row.len() && row[stop as usize].equals(pixel) {
         stop += 1;
     }
     stop
