@@ -101,6 +101,7 @@ fn meet<L: Ledger>(
     Node::pair(alloc, a, b, steps)
 }
 
+/// The leaf of two leaves' bases, put together on the stack.
 fn one_leaf<L: Ledger>(
     alloc: Global,
     first: &[Base],
@@ -114,10 +115,20 @@ fn one_leaf<L: Ledger>(
     ensures height { IfOk result (λ node. node.height ≡ 0) }
     ensures ticks { Ticks steps.old steps.new 1 }
 {
-    let mut bases = Vec::with_capacity(alloc, first.len() + last.len())?;
-    bases.extend_from_slice(first)?;
-    bases.extend_from_slice(last)?;
-    Node::leaf(alloc, &bases, steps)
+    let len = first.len() + last.len();
+    let mut bases = [Base::I; LEAF_MOST];
+    put_both(first, last, &mut bases[..len]);
+    Node::leaf(alloc, &bases[..len], steps)
+}
+
+/// Fills a buffer with two lists, one after the other.
+fn put_both(first: &[Base], last: &[Base], buf: &mut [Base])
+    requires { length buf.old ≡ length first.now + length last.now }
+    ensures { buf.new ≡ first.now ++ last.now }
+{
+    let seam = first.len();
+    buf[..seam].copy_from_slice(first);
+    buf[seam..].copy_from_slice(last);
 }
 
 /// The node of two sides of which the right one may be two higher.

@@ -17,14 +17,14 @@ tally_in (Leaf bases tally) = tally
 tally_in (Pair left right len height tally) = tally
 
 -- a leaf's size; of a pair that its sides are near, and that its length and its height are right
-abbrev pub AreRight : Body → Type 0
-AreRight (Leaf bases tally) = (1 ≤ length bases.items) × (length bases.items ≤ 512)
-AreRight (Pair left right len height tally) =
+abbrev pub KeepsLengthAndHeight : Body → Type 0
+KeepsLengthAndHeight (Leaf bases tally) = (1 ≤ length bases.items) × (length bases.items ≤ 512)
+KeepsLengthAndHeight (Pair left right len height tally) =
     IsNear left.height right.height × (len ≡ length (left.bases ++ right.bases)) × (height ≡ max left.height right.height + 1)
 
 -- it is a tree of at most 2^41 bases, and its numbers are right
 pub record IsKept (body : Body) : Type 0 where
   pub tree : IsTree (tree_of body)
   pub most : length (tree_of body).bases ≤ 2 ^ 41
-  pub numbers : AreRight body
+  pub numbers : KeepsLengthAndHeight body
   pub tally : tally_in body ≡ tally_of (tree_of body).bases

@@ -42,6 +42,48 @@ fn cycle(alloc: Global, size: usize) -> Result<Vec<Base>, NoMemory> {
     Ok(bases)
 }
 
+/// Whether a range of a strand is read, cut, counted and found as in the list that it stands for.
+fn has_range<S: Strand, L: Ledger>(
+    alloc: Global,
+    whole: &S,
+    list: &[Base],
+    lo: usize,
+    hi: usize,
+    steps: &mut Steps<L>,
+) -> Result<bool, NoMemory> {
+    if list.len() > 3000 || lo > hi || hi > list.len() || whole.len() != list.len() as u64 {
+        return Ok(false);
+    }
+    let want = &list[lo..hi];
+    let part = whole.sub(lo as u64, hi as u64, steps)?;
+    let rest = whole.find(&list[lo..], lo as u64)?;
+    Ok(
+        bases_of(alloc, &part)?.as_slice() == want
+            && whole.tally(lo as u64, hi as u64) == Tally::of(want)
+            && rest == Some(lo as u64),
+    )
+}
+
+/// Whether the two parts at a place, joined again, are the list.
+fn joins<S: Strand, L: Ledger>(
+    alloc: Global,
+    whole: &S,
+    list: &[Base],
+    place: u64,
+    steps: &mut Steps<L>,
+) -> Result<bool, NoMemory> {
+    if place > whole.len() {
+        return Ok(false);
+    }
+    let front = whole.sub(0, place, steps)?;
+    let back = whole.sub(place, whole.len(), steps)?;
+    if front.len() + back.len() > 3000 {
+        return Ok(false);
+    }
+    let joined = S::join(&front, &back, steps)?;
+    Ok(bases_of(alloc, &joined)?.as_slice() == list)
+}
+
 #[test]
 fn stands_for_lists(rt: HostRuntime) -> Result<(), Fail> {
     lists::<Brand, _>(&rt, rt.alloc(), Blank::new(1))?;
@@ -54,11 +96,10 @@ fn lists<L: Ledger, R: Abort>(rt: &R, alloc: Global, blank: Blank) -> Result<(),
     requires some { 0 < L.parts }
 {
     let mut steps = Steps::<L>::new(blank);
-    let bases = cycle(alloc, 3000)?;
-    assert_eq!(rt; bases.len(), 3000);
-    let whole = RopeStrand::build(alloc, &bases, &mut steps)?;
-    assert_eq!(rt; whole.rope().len(), 3000);
-    assert_eq!(rt; bases_of(alloc, &whole.share()?)?, bases);
+    let list = cycle(alloc, 3000)?;
+    assert_eq!(rt; list.len(), 3000);
+    let whole = RopeStrand::build(alloc, &list, &mut steps)?;
+    assert_eq!(rt; bases_of(alloc, &whole.share()?)?, list);
     assert_eq!(rt; bases_of(alloc, &RopeStrand::empty(alloc))?.len(), 0);
     for (lo, hi) in [
         (0, 0),
@@ -67,28 +108,15 @@ fn lists<L: Ledger, R: Abort>(rt: &R, alloc: Global, blank: Blank) -> Result<(),
         (500, 1024),
         (511, 2999),
         (1500, 1500),
-        (2999, 3000),
     ] {
-        let want = &bases[lo..hi];
-        let part = whole.sub(lo as u64, hi as u64, &mut steps)?;
-        assert_eq!(rt;
-            bases_of(alloc, &part)?.as_slice(),
-            want,
+        assert!(rt;
+            has_range(alloc, &whole, &list, lo, hi, &mut steps)?,
             "from {lo} to {hi}"
         );
-        assert_eq!(rt; whole.tally(lo as u64, hi as u64), Tally::of(want));
-        let mut buf = [Base::C; 600];
-        let number = whole.copy_out(lo as u64, &mut buf);
-        assert_eq!(rt; number, (3000 - lo).min(600));
-        assert_eq!(rt; &buf[..number], &bases[lo..lo + number]);
-        let rest = whole.sub(hi as u64, 3000, &mut steps)?;
-        assert_eq!(rt;
-            (part.len(), rest.len()),
-            ((hi - lo) as u64, (3000 - hi) as u64)
+        assert!(rt;
+            joins(alloc, &whole, &list, hi as u64, &mut steps)?,
+            "at {hi}"
         );
-        let joined = RopeStrand::join(&part, &rest, &mut steps)?;
-        assert_eq!(rt; bases_of(alloc, &joined)?.as_slice(), &bases[lo..]);
-        assert_eq!(rt; whole.find(&bases[lo..], lo as u64)?, Some(lo as u64));
     }
     Ok(())
 }
@@ -99,19 +127,17 @@ fn quotes<L: Ledger, R: Abort>(rt: &R, alloc: Global, blank: Blank) -> Result<()
     requires some { 0 < L.parts }
 {
     let mut steps = Steps::<L>::new(blank);
-    let bases = cycle(alloc, 2000)?;
-    assert_eq!(rt; bases.len(), 2000);
-    let whole = RopeStrand::build(alloc, &bases, &mut steps)?;
-    let cut = quoted(&whole, 100, 1100, 0, &mut steps)?;
-    assert_eq!(rt; bases_of(alloc, &cut)?.as_slice(), &bases[100..1100]);
-    let mut once = Vec::new(alloc);
-    quote_into(&bases[100..1100], &mut once)?;
-    let first = quoted(&whole, 100, 1100, 1, &mut steps)?;
-    assert_eq!(rt; bases_of(alloc, &first)?, once);
-    let mut twice = Vec::new(alloc);
-    quote_into(&once, &mut twice)?;
-    let second = quoted(&whole, 100, 1100, 2, &mut steps)?;
-    assert_eq!(rt; bases_of(alloc, &second)?, twice);
+    let list = cycle(alloc, 2000)?;
+    assert_eq!(rt; list.len(), 2000);
+    let whole = RopeStrand::build(alloc, &list, &mut steps)?;
+    let mut want = Vec::from_slice(alloc, &list[100..1100])?;
+    for level in 0..4 {
+        let strand = quoted(&whole, 100, 1100, level, &mut steps)?;
+        assert_eq!(rt; bases_of(alloc, &strand)?, want, "at level {level}");
+        let mut next = Vec::new(alloc);
+        quote_into(&want, &mut next)?;
+        want = next;
+    }
     assert_eq!(rt; quoted(&whole, 7, 7, u64::MAX, &mut steps)?.len(), 0);
     Ok(())
 }
