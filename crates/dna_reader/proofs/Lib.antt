@@ -11,3 +11,4 @@ pub mod StepLemmas
 pub mod EndLemmas
 pub mod CodeLemmas
 pub mod ReadableLemmas
+pub mod LineLemmas

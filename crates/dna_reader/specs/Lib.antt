@@ -14,5 +14,7 @@ pub mod Takers
 pub mod PieceByPiece
 pub mod Errors
 pub mod Worked
+pub mod RnaLines
+pub mod Lending
 pub mod Codes
 pub mod CodeLaws

@@ -1,6 +1,7 @@
 //! What holds of the definitions. Each call does nothing: its clause is the law.
 ghost use Rattle.dna_reader.specs.CodeLaws.{NumberIsRead, PatternCodeIsRead, OnlyReadableIsRead, TemplateCodeIsRead, PairCodeIsRead};
 ghost use Rattle.dna_reader.specs.ReadingLaws.{HasCutting, HasOneCutting, HasReading, HasOneReading, HasShortReadings, HasShortRna, PatternsAreBalanced, ConstantsAreLongest, ConstantsAreOne, NumeralByDigits};
+ghost use Rattle.dna_reader.specs.RnaLines.{PartIsFront};
 ghost use Rattle.dna_reader.specs.Tables.{pattern_table, template_table};
 ghost use Rattle.dna_reader.specs.Worked.{PatternWorked, TemplateWorked, SearchWorked, CommandWorked, ShortCommandWorked, NoNumeralWorked, OpenGroupWorked};
 
@@ -75,4 +76,9 @@ pub fn template_codes()
 /// The code of a pair is read as its pattern and then as its template, without RNA.
 pub fn pair_codes()
     ensures { PairCodeIsRead }
+{}
+
+/// A writer of lines that stands within commands has written a front of their lines.
+pub fn lines_in_part()
+    ensures { PartIsFront }
 {}

@@ -7,12 +7,14 @@ pub mod laws;
 mod numerals;
 mod pieces;
 mod reading;
+mod rna_lines;
 mod takers;
 mod window;
 
 pub use discard::Discard;
 pub use numerals::{read_consts, read_numeral};
 pub use reading::{ReadingError, read_pattern, read_template};
+pub use rna_lines::{RnaLines, put_line};
 pub use takers::{RnaTaker, TakeError};
 
 #[cfg(test)]

@@ -1,10 +1,12 @@
 ghost use Rattle.std.specs.Prelude.{◌≡◌, ◌<◌, ◌≤◌, length};
 
 use crate::{
-    Discard, ReadingError, RnaTaker, read_consts, read_numeral, read_pattern, read_template,
+    Discard, ReadingError, RnaLines, RnaTaker, read_consts, read_numeral, read_pattern,
+    read_template,
 };
 use dna_items::{BIG, PatItem, TplItem};
 use fuun_base::{CommandList, Steps, read_dna};
+use fuun_io::MemSink;
 use std::alloc::Global;
 use std::marker::Brand;
 use std::process::Abort;
@@ -131,6 +133,32 @@ fn numbers<L: Ledger>(rt: &impl Abort, alloc: Global, blank: Blank) -> Result<()
         let dna = flat(alloc, letters.as_str(), &mut steps)?;
         let (constants, place) = read_consts(alloc, &dna, 0)?;
         assert_eq!(rt; (constants.len(), place), (len, next), "at {count} {digit}");
+    }
+    Ok(())
+}
+
+#[test]
+fn lines_stop_at_a_fault(rt: HostRuntime) -> Result<(), Fail> {
+    two_lines::<Brand>(&rt, rt.alloc(), Blank::new(1))
+}
+
+/// Bytes are written one by one, and each write fails in turn: what is before it stands, and nothing behind it.
+fn two_lines<L: Ledger>(rt: &impl Abort, alloc: Global, blank: Blank) -> Result<(), Fail>
+    requires name { blank.name ≡ L.name }
+    requires parts { blank.parts ≡ L.parts }
+    requires some { 0 < L.parts }
+{
+    let mut steps = Steps::<L>::new(blank);
+    let dna = flat(alloc, "IIIFPCFPCFCIIIPIPIPICIIC", &mut steps)?;
+    let lines = b"FPCFPCF\nPIPIPIC\n";
+    for fault in 0..lines.len() + 1 {
+        let mut sink = MemSink::with_room(alloc, 20)?;
+        sink.set_most(1);
+        sink.fail_at(fault as u64)?;
+        let read = read_pattern(alloc, &dna, 0, &mut RnaLines::new(&mut sink));
+        assert_eq!(rt; sink.bytes(), &lines[..fault], "at {fault}");
+        let failed = matches!(read, Err(ReadingError::TakerFailed));
+        assert_eq!(rt; failed, fault < lines.len(), "at {fault}");
     }
     Ok(())
 }
