@@ -13,7 +13,8 @@ use strand::Strand;
 
 impl<S: Strand> Machine<S> {
     /// Makes attempts until one finishes or is too long, or until as many were made as the budget allows.
-    /// After an error the DNA is that before the attempt that failed.
+    /// After an error the DNA is that before the attempt that failed: the RNA of those before it was taken, and a part of its own.
+    /// On every outcome at most as many steps are counted as the attempts weigh together.
     pub fn run<T: RnaTaker, L: Ledger>(
         &mut self,
         budget: u64,

@@ -19,6 +19,7 @@ use strand::Strand;
 impl<S: Strand> Machine<S> {
     /// Makes one attempt. Its RNA goes to the taker, whatever becomes of the attempt.
     /// After an error the DNA is as before, and another `step` reads that RNA again.
+    /// On every outcome at most as many steps are counted as the attempt weighs.
     pub fn step<T: RnaTaker, L: Ledger>(
         &mut self,
         rna: &mut T,
