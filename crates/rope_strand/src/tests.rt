@@ -18,17 +18,18 @@ fn bases_of<S: Strand>(alloc: Global, strand: &S) -> Result<Vec<Base>, NoMemory>
 }
 
 /// The range of a strand, quoted; with a bad range or a long result all of it as it is.
-fn quoted<S: Strand, L: Ledger>(
-    whole: &S,
+fn quoted<L: Ledger>(
+    whole: &RopeStrand,
     lo: u64,
     hi: u64,
     level: u64,
     steps: &mut Steps<L>,
-) -> Result<S, NoMemory> {
+) -> Result<RopeStrand, NoMemory> {
     if lo > hi || hi > whole.len() {
         return whole.share();
     }
-    match whole.tally(lo, hi).quoted_len(level, 1 << 40) {
+    let tally = whole.tally(lo, hi);
+    match tally.quoted_len(level, 1 << 40) {
         None => whole.share(),
         Some(_) => whole.quoted(lo, hi, level, steps),
     }
