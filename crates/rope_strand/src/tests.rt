@@ -1,13 +1,13 @@
 ghost use Rattle.std.specs.Prelude.{◌≡◌, ◌<◌};
 
 use crate::RopeStrand;
-use fuun_base::{Base, NoMemory, Steps, Tally, quote_into};
+use fuun_base::{Base, NoMemory, Steps, Tally};
 use std::alloc::Global;
 use std::marker::Brand;
 use std::process::Abort;
 use std::sync::ledger::{Blank, Ledger};
 use std::test::Fail;
-use strand::Strand;
+use strand::{Strand, requoted};
 
 /// The bases of a strand.
 fn bases_of<S: Strand>(alloc: Global, strand: &S) -> Result<Vec<Base>, NoMemory> {
@@ -18,17 +18,18 @@ fn bases_of<S: Strand>(alloc: Global, strand: &S) -> Result<Vec<Base>, NoMemory>
 }
 
 /// The range of a strand, quoted; with a bad range or a long result all of it as it is.
-fn quoted<S: Strand, L: Ledger>(
-    whole: &S,
+fn quoted<L: Ledger>(
+    whole: &RopeStrand,
     lo: u64,
     hi: u64,
     level: u64,
     steps: &mut Steps<L>,
-) -> Result<S, NoMemory> {
+) -> Result<RopeStrand, NoMemory> {
     if lo > hi || hi > whole.len() {
         return whole.share();
     }
-    match whole.tally(lo, hi).quoted_len(level, 1 << 40) {
+    let tally = whole.tally(lo, hi);
+    match tally.quoted_len(level, 1 << 40) {
         None => whole.share(),
         Some(_) => whole.quoted(lo, hi, level, steps),
     }
@@ -84,10 +85,43 @@ fn joins<S: Strand, L: Ledger>(
     Ok(bases_of(alloc, &joined)?.as_slice() == list)
 }
 
+/// Whether ranges of a rope of a list are those of the list.
+fn has_ranges<L: Ledger>(
+    alloc: Global,
+    list: &[Base],
+    steps: &mut Steps<L>,
+) -> Result<bool, NoMemory> {
+    if list.len() > 3000 {
+        return Ok(false);
+    }
+    let whole = RopeStrand::build(alloc, list, steps)?.share()?;
+    for (lo, hi) in [(0, 0), (0, 3000), (1, 512), (500, 1024), (511, 2999)] {
+        if !has_range(alloc, &whole, list, lo, hi, steps)? {
+            return Ok(false);
+        }
+    }
+    joins(alloc, &whole, list, 1234, steps)
+}
+
+/// Whether a part of a rope of a list, quoted so often, is that of the list.
+fn quotes<L: Ledger>(
+    alloc: Global,
+    list: &[Base],
+    level: u64,
+    steps: &mut Steps<L>,
+) -> Result<bool, NoMemory> {
+    if list.len() != 3000 {
+        return Ok(false);
+    }
+    let whole = RopeStrand::build(alloc, list, steps)?;
+    let part = quoted(&whole, 100, 1100, level, steps)?;
+    let want = requoted(alloc, Vec::from_slice(alloc, &list[100..1100])?, level)?;
+    Ok(bases_of(alloc, &part)? == want)
+}
+
 #[test]
 fn stands_for_lists(rt: HostRuntime) -> Result<(), Fail> {
-    lists::<Brand, _>(&rt, rt.alloc(), Blank::new(1))?;
-    quotes::<Brand, _>(&rt, rt.alloc(), Blank::new(1))
+    lists::<Brand, _>(&rt, rt.alloc(), Blank::new(1))
 }
 
 fn lists<L: Ledger, R: Abort>(rt: &R, alloc: Global, blank: Blank) -> Result<(), Fail>
@@ -97,47 +131,9 @@ fn lists<L: Ledger, R: Abort>(rt: &R, alloc: Global, blank: Blank) -> Result<(),
 {
     let mut steps = Steps::<L>::new(blank);
     let list = cycle(alloc, 3000)?;
-    assert_eq!(rt; list.len(), 3000);
-    let whole = RopeStrand::build(alloc, &list, &mut steps)?;
-    assert_eq!(rt; bases_of(alloc, &whole.share()?)?, list);
-    assert_eq!(rt; bases_of(alloc, &RopeStrand::empty(alloc))?.len(), 0);
-    for (lo, hi) in [
-        (0, 0),
-        (0, 3000),
-        (1, 512),
-        (500, 1024),
-        (511, 2999),
-        (1500, 1500),
-    ] {
-        assert!(rt;
-            has_range(alloc, &whole, &list, lo, hi, &mut steps)?,
-            "from {lo} to {hi}"
-        );
-        assert!(rt;
-            joins(alloc, &whole, &list, hi as u64, &mut steps)?,
-            "at {hi}"
-        );
-    }
-    Ok(())
-}
-
-fn quotes<L: Ledger, R: Abort>(rt: &R, alloc: Global, blank: Blank) -> Result<(), Fail>
-    requires name { blank.name ≡ L.name }
-    requires parts { blank.parts ≡ L.parts }
-    requires some { 0 < L.parts }
-{
-    let mut steps = Steps::<L>::new(blank);
-    let list = cycle(alloc, 2000)?;
-    assert_eq!(rt; list.len(), 2000);
-    let whole = RopeStrand::build(alloc, &list, &mut steps)?;
-    let mut want = Vec::from_slice(alloc, &list[100..1100])?;
+    assert!(rt; has_ranges(alloc, &list, &mut steps)?);
     for level in 0..4 {
-        let strand = quoted(&whole, 100, 1100, level, &mut steps)?;
-        assert_eq!(rt; bases_of(alloc, &strand)?, want, "at level {level}");
-        let mut next = Vec::new(alloc);
-        quote_into(&want, &mut next)?;
-        want = next;
+        assert!(rt; quotes(alloc, &list, level, &mut steps)?);
     }
-    assert_eq!(rt; quoted(&whole, 7, 7, u64::MAX, &mut steps)?.len(), 0);
     Ok(())
 }
