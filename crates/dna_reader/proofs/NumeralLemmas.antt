@@ -106,9 +106,6 @@ position_in_front (x ∷ a) b k e =
           there ∙ sym here ∙ e
     ]
 
-pub numeral_none : (d : List Base) → HasNoP d → numeral d ≡ None
-numeral_none d e = rw e refl
-
 pub numeral_at : (a d : List Base) (k : ℕ) → HasNoP a → position is_p d ≡ Some k → numeral (a ++ d) ≡ Some (value_from 0 (a ++ take k d), length a + k + 1)
 numeral_at a d k no_p e =
     let at : position is_p (a ++ d) ≡ Some (length a + k) = position_after a d no_p ∙ ap (λ o. option_map (λ j. length a + j) o) e in

@@ -140,9 +140,6 @@ one_reading table groups d a b x y =
     let same = same_cutting table x.0 y.0 groups d x.1 y.1 x.2 y.2 in
     x.3 ∙ ap (λ l. reading_of (is_ended l) l x.1) same.0 ∙ ap (λ l. reading_of (is_ended y.0) y.0 l) same.1 ∙ sym y.3
 
-is_end_item : {Item : Type 0} (gives : Gives Item) (x : Item) → gives ≡ GivesItem x → is_end gives ≡ false
-is_end_item gives x e = ap is_end e
-
 option_cases : {A : Type 0} (o : Option A) → (o ≡ None) ⊎ ((x : A) × (o ≡ Some x))
 option_cases None = inl refl
 option_cases (Some x) = inr (x, refl)

@@ -1,7 +1,7 @@
 -- Items at the front that are passed in one step: one item, or bases.
-use Rattle.std.proofs.Common.{◌≡◌, ℕ, ◌+◌, ◌-◌, ◌<◌, ◌≤◌, inl, inr, Option, Some, None, List, [], ◌∷◌, ◌++◌, length, take, drop, map, set, min, get_or, arith, refl, ap, sym, ◌∙◌, subst}
+use Rattle.std.proofs.Common.{◌≡◌, ℕ, ◌+◌, ◌<◌, ◌≤◌, inl, inr, Option, Some, None, List, [], ◌∷◌, ◌++◌, length, take, drop, map, set, get_or, arith, refl, ap, sym, ◌∙◌, subst}
 use Rattle.std.specs.Prelude.{slice_get, slice_range, MatchOption}
-use Rattle.std.proofs.lemmas.List.{take-append-drop, length-map, length-take-le, drop_all, append-nil, take_more, take_more_set, map_push}
+use Rattle.std.proofs.lemmas.List.{take-append-drop, length-map, length-take-le, take_more, take_more_set, map_push}
 use Rattle.std.proofs.lemmas.Option.{slice_get_within, slice_get-get_or}
 use Rattle.fuun_base.specs.declared.letters.Base.{Base}
 use Rattle.fuun_base.specs.Occurrence.{Stands}
@@ -119,21 +119,6 @@ pub passes_item : (d : List Base) (item : PatItem) (items : List PatItem) (at : 
 passes_item d item [] at moved passed some first moves is = absurd (omega arith)
 passes_item d item (x ∷ items) at moved passed some first moves is =
     subst (λ y. Passes d (y ∷ items) at passed) (sym first) (passes_first d item items at moved passed moves is)
-
--- what a copy wrote, where there are enough bases
-pub copied : (d run buf old : List Base) (at n : ℕ) → length old ≡ length run → n ≡ min (length old) (length d - at) → buf ≡ take n (drop at d) ++ drop n old → length run ≤ length d - at → buf ≡ slice_range d at (at + length run)
-copied d run buf old at n size number written room =
-    let all : n ≡ length run = omega arith in
-    let gone : drop n old ≡ [] = drop_all n old (omega arith) in
-    let count : at + length run - at ≡ length run = omega arith in
-    written ∙ ap (λ r. take n (drop at d) ++ r) gone ∙ append-nil (take n (drop at d)) ∙ ap (λ k. take k (drop at d)) (all ∙ sym count)
-
-pub stands_by : (d run buf old : List Base) (at n : ℕ) → length old ≡ length run → n ≡ min (length old) (length d - at) → buf ≡ take n (drop at d) ++ drop n old → length run ≤ length d - at → at ≤ length d → buf ≡ run → Stands run d at
-stands_by d run buf old at n size number written room within same =
-    record { within = omega arith; there = sym (copied d run buf old at n size number written room) ∙ same }
-
-pub same_by : (d run buf old : List Base) (at n : ℕ) → length old ≡ length run → n ≡ min (length old) (length d - at) → buf ≡ take n (drop at d) ++ drop n old → length run ≤ length d - at → Stands run d at → buf ≡ run
-same_by d run buf old at n size number written room stands = copied d run buf old at n size number written room ∙ stands.there
 
 -- one more base at the front of the items
 pub literals_more : (items : List PatItem) (run : List Base) (count : ℕ) (item : PatItem) (base : Base) → take count items ≡ map Literal (take count run) → count < length items → count < length run → item ≡ get_or items count item → item ≡ Literal base → take (count + 1) items ≡ map Literal (take (count + 1) (set run count base))
