@@ -1,5 +1,5 @@
 -- The verbs and their options.
-use Rattle.std.specs.Prelude.{List, [], ◌∷◌, Option, Some, None, codes, if◌then◌else◌}
+use Rattle.std.specs.Prelude.{List, [], ◌∷◌, Option, codes, find, option_map}
 use Rattle.std.specs.Str.{bytes_eq}
 use Rattle.clap.specs.Walk.{Text}
 use Rattle.fuun_words.specs.Commands.{VerbOption}
@@ -7,14 +7,18 @@ use Rattle.fuun_words.specs.declared.verb.Need.TheVariants.{Required, Optional}
 use Rattle.fuun_words.specs.declared.verb.Verb.{Verb}
 use Rattle.fuun_words.specs.declared.verb.Verb.TheVariants.{Rna, Image, Dna, Draw}
 
+-- the verbs by their names
+abbrev pub verbs : List (Text × Verb)
+verbs =
+    (codes "rna", Rna)
+    ∷ (codes "image", Image)
+    ∷ (codes "dna", Dna)
+    ∷ (codes "draw", Draw)
+    ∷ []
+
 -- the verb of this name
 abbrev pub verb_of : Text → Option Verb
-verb_of word =
-    if bytes_eq word (codes "rna") then Some Rna
-    else (if bytes_eq word (codes "image") then Some Image
-    else (if bytes_eq word (codes "dna") then Some Dna
-    else (if bytes_eq word (codes "draw") then Some Draw
-    else None)))
+verb_of word = option_map (λ row. row.1) (find (λ row. bytes_eq word row.0) verbs)
 
 abbrev pub run_options : List VerbOption
 run_options =

@@ -1,5 +1,4 @@
 use super::*;
-use rna_code::Profile;
 use std::alloc::Global;
 use std::test::Fail;
 
@@ -14,28 +13,34 @@ fn asked(alloc: Global, line: &str) -> Result<Result<Request, WordsError>, Fail>
 #[test]
 fn words_ask(rt: HostRuntime) -> Result<(), Fail> {
     let alloc = rt.alloc();
-    for (line, budget, limit) in [
-        ("rna --dna a", 10_000_000, 67_108_864),
-        ("rna --budget 0002 --dna a", 2, 67_108_864),
-        ("rna --budget=0 --dna=a", 0, 67_108_864),
+    for (line, answer) in [
         (
-            "rna --limit 1 --dna a --budget 1099511627776",
-            1_099_511_627_776,
-            1,
+            "rna --dna a",
+            r#"Rna(RunWords { dna: Name { text: "a" }, prefix: None, budget: 10000000, limit: 67108864 })"#,
         ),
         (
-            "rna --dna a --limit=1099511627776 --",
-            10_000_000,
-            1_099_511_627_776,
+            "rna --budget=0002 --limit 1 --prefix p --dna= --",
+            r#"Rna(RunWords { dna: Name { text: "" }, prefix: Some(Name { text: "p" }), budget: 2, limit: 1 })"#,
+        ),
+        (
+            "dna --limit 1099511627776 --dna=-v --budget 1099511627776",
+            r#"Dna(RunWords { dna: Name { text: "-v" }, prefix: None, budget: 1099511627776, limit: 1099511627776 })"#,
+        ),
+        (
+            "image --dna a --budget 0",
+            r#"Image { run: RunWords { dna: Name { text: "a" }, prefix: None, budget: 0, limit: 67108864 }, profile: Plain }"#,
+        ),
+        (
+            "draw --rna r --profile plain",
+            r#"Draw { rna: Name { text: "r" }, profile: Plain }"#,
+        ),
+        (
+            "draw --profile=wide --rna r",
+            r#"Draw { rna: Name { text: "r" }, profile: Wide }"#,
         ),
     ] {
-        let Ok(Request::Rna(run)) = asked(alloc, line)? else {
-            return Err("no run".into());
-        };
-        assert_eq!(rt; run.dna.as_str(), "a", "at {line}");
-        assert!(rt; run.prefix.is_none(), "at {line}");
-        assert_eq!(rt; run.budget, budget, "at {line}");
-        assert_eq!(rt; run.limit, limit, "at {line}");
+        let request = asked(alloc, line)?.map_err(|_| "no request")?;
+        assert_eq!(rt; format!(in alloc; "{request:?}")?.as_str(), answer);
     }
     Ok(())
 }
@@ -43,11 +48,6 @@ fn words_ask(rt: HostRuntime) -> Result<(), Fail> {
 #[test]
 fn other_words_are_refused(rt: HostRuntime) -> Result<(), Fail> {
     let alloc = rt.alloc();
-    let none: Vec<String> = Vec::new(alloc);
-    assert_eq!(rt;
-        read_request(alloc, none.as_slice()).err(),
-        Some(WordsError::Usage)
-    );
     for line in [
         "",
         "run --dna a",
@@ -76,44 +76,12 @@ fn other_words_are_refused(rt: HostRuntime) -> Result<(), Fail> {
         "draw --dna a",
         "draw --rna a --profile",
     ] {
-        assert_eq!(rt;
-            asked(alloc, line)?.err(),
-            Some(WordsError::Usage),
+        assert!(rt;
+            matches!(asked(alloc, line)?, Err(WordsError::Usage)),
             "at {line}"
         );
     }
-    Ok(())
-}
-
-#[test]
-fn pictures_have_profiles(rt: HostRuntime) -> Result<(), Fail> {
-    let alloc = rt.alloc();
-    for (line, wanted) in [
-        ("image --dna a --prefix p", Profile::Plain),
-        ("image --dna a --prefix p --profile plain", Profile::Plain),
-        ("image --profile=wide --prefix=p --dna=a", Profile::Wide),
-    ] {
-        let Ok(Request::Image { run, profile }) = asked(alloc, line)? else {
-            return Err("no picture".into());
-        };
-        assert_eq!(rt; run.dna.as_str(), "a", "at {line}");
-        assert_eq!(rt;
-            run.prefix.as_ref().map(Name::as_str),
-            Some("p"),
-            "at {line}"
-        );
-        assert_eq!(rt; profile, wanted, "at {line}");
-    }
-    for (line, name, wanted) in [
-        ("draw --rna r", "r", Profile::Plain),
-        ("draw --rna= --profile wide", "", Profile::Wide),
-    ] {
-        let Ok(Request::Draw { rna, profile }) = asked(alloc, line)? else {
-            return Err("no picture".into());
-        };
-        assert_eq!(rt; rna.as_str(), name, "at {line}");
-        assert_eq!(rt; profile, wanted, "at {line}");
-    }
-    assert!(rt; matches!(asked(alloc, "dna --dna=-v --limit=5")?, Ok(Request::Dna(_))));
+    let none: Vec<String> = Vec::new(alloc);
+    assert!(rt; matches!(read_request(alloc, none.as_slice()), Err(WordsError::Usage)));
     Ok(())
 }
