@@ -1,5 +1,5 @@
 -- Tallies of parts of joined lists.
-use Rattle.std.proofs.Common.{◌≡◌, ℕ, ◌+◌, ◌^◌, ◌<◌, ◌≤◌, List, length, ap, arith}
+use Rattle.std.proofs.Common.{◌≡◌, ◌+◌, ◌^◌, ◌<◌, ◌≤◌, List, length, ap, arith}
 use Rattle.fuun_base.specs.declared.letters.Base.{Base}
 use Rattle.fuun_base.specs.declared.tally.Tally.{Tally}
 use Rattle.fuun_base.specs.Tally.{tally_of, tally_total}

@@ -1,4 +1,4 @@
-use Rattle.std.proofs.Common.{◌≡◌, ◌-◌, ◌++◌, length, drop, ap, arith, length-append, length-drop}
+use Rattle.std.proofs.Common.{◌≡◌, ◌++◌, length, drop, ap, arith, length-append, length-drop}
 use Rattle.std.proofs.lemmas.List.{drop-append-le}
 use Rattle.fuun_base.proofs.Counting.{tally_of-append}
 use Rattle.rope_node.specs.Tree.{Tree}

@@ -1,4 +1,4 @@
-use Rattle.std.proofs.Common.{◌≡◌, ◌++◌, ap, arith, sym, rules}
+use Rattle.std.proofs.Common.{◌≡◌, ◌++◌, ap, arith}
 use Rattle.std.proofs.lemmas.Result.{on_ok_weaker}
 use Rattle.rope_node.specs.Tree.{Tree}
 use Rattle.rope_strand.proofs.Quoted.{quoted_both}

@@ -1,4 +1,4 @@
-use Rattle.std.proofs.Common.{◌≡◌, ◌<◌, ◌≤◌, ◌^◌, length, slice_range, sym, ap, arith, ◌∙◌}
+use Rattle.std.proofs.Common.{◌≡◌, ◌<◌, ◌^◌, length, slice_range, sym, ap, arith, ◌∙◌}
 use Rattle.fuun_base.specs.Quote.{quote, protect}
 use Rattle.fuun_base.specs.Tally.{tally_total}
 use Rattle.fuun_base.proofs.Counting.{tally_total-tally_of}
