@@ -1,8 +1,9 @@
 -- The readings that were worked out by hand are readings.
-use Rattle.std.proofs.Common.{[], ◌∷◌, arith}
+use Rattle.std.proofs.Common.{refl, [], ◌∷◌, arith}
 use Rattle.fuun_base.specs.declared.letters.Base.TheVariants.{I, C, F, P}
+use Rattle.fuun_base.specs.Quote.{asnat, asnat_from}
 use Rattle.dna_reader.specs.Tables.{pattern_table, template_table}
-use Rattle.dna_reader.specs.Worked.{behind_pattern, PatternWorked, TemplateWorked, SearchWorked, CommandWorked, ShortCommandWorked, NoNumeralWorked, OpenGroupWorked}
+use Rattle.dna_reader.specs.Worked.{behind_pattern, PatternWorked, TemplateWorked, SearchWorked, CommandWorked, ShortCommandWorked, NoNumeralWorked, OpenGroupWorked, PairWorked, SearchPairWorked}
 use Rattle.dna_reader.proofs.ReadingLemmas.{reads_computed}
 use Rattle.dna_reader.proofs.TableLemmas.{pattern_fits, template_fits}
 
@@ -26,3 +27,10 @@ no_numeral_worked = reads_computed pattern_table pattern_fits 4 0 (I ∷ P ∷ C
 
 pub open_group_worked : OpenGroupWorked
 open_group_worked = reads_computed pattern_table pattern_fits 6 0 (I ∷ I ∷ P ∷ I ∷ I ∷ C ∷ []) (omega arith)
+
+pub pair_worked : PairWorked
+unfolding asnat asnat_from
+pair_worked = refl
+
+pub search_pair_worked : SearchPairWorked
+search_pair_worked = refl

@@ -1,9 +1,10 @@
 -- Readings that were worked out by hand.
-use Rattle.std.specs.Prelude.{List, [], ◌∷◌}
+use Rattle.std.specs.Prelude.{◌≡◌, List, [], ◌∷◌}
 use Rattle.fuun_base.specs.declared.letters.Base.{Base}
 use Rattle.fuun_base.specs.declared.letters.Base.TheVariants.{I, C, F, P}
 use Rattle.dna_items.specs.declared.items.PatItem.TheVariants.{Base as Literal, Skip, Search, GroupStart, GroupStop}
 use Rattle.dna_items.specs.declared.items.TplItem.TheVariants.{Base as TplLiteral, Group}
+use Rattle.dna_reader.specs.Codes.{pair_code}
 use Rattle.dna_reader.specs.Reading.{Read, RanOut}
 use Rattle.dna_reader.specs.Tables.{ReadsPattern, ReadsTemplate}
 
@@ -42,3 +43,13 @@ NoNumeralWorked = ReadsPattern (I ∷ P ∷ C ∷ C ∷ []) (RanOut [])
 -- a group is open where the DNA ends
 abbrev pub OpenGroupWorked : Type 0
 OpenGroupWorked = ReadsPattern (I ∷ I ∷ P ∷ I ∷ I ∷ C ∷ []) (RanOut [])
+
+-- the pattern (!2)P and the template PI{0,0} as DNA
+abbrev pub PairWorked : Type 0
+PairWorked =
+    pair_code (GroupStart ∷ Skip 2 ∷ GroupStop ∷ Literal P ∷ []) (TplLiteral P ∷ TplLiteral I ∷ Group 0 0 ∷ [])
+    ≡ I ∷ I ∷ P ∷ I ∷ P ∷ I ∷ C ∷ P ∷ I ∷ I ∷ C ∷ I ∷ C ∷ I ∷ I ∷ C ∷ I ∷ C ∷ C ∷ I ∷ F ∷ P ∷ P ∷ I ∷ I ∷ C ∷ []
+
+-- the pattern <CF> and no template as DNA
+abbrev pub SearchPairWorked : Type 0
+SearchPairWorked = pair_code (Search (C ∷ F ∷ []) ∷ []) [] ≡ I ∷ F ∷ F ∷ F ∷ P ∷ I ∷ I ∷ C ∷ I ∷ I ∷ C ∷ []

@@ -3,7 +3,7 @@ ghost use Rattle.dna_reader.specs.CodeLaws.{NumberIsRead, PatternCodeIsRead, Onl
 ghost use Rattle.dna_reader.specs.ReadingLaws.{HasCutting, HasOneCutting, HasReading, HasOneReading, HasShortReadings, HasShortRna, PatternsAreBalanced, ConstantsAreLongest, ConstantsAreOne, NumeralByDigits};
 ghost use Rattle.dna_reader.specs.RnaLines.{PartIsFront};
 ghost use Rattle.dna_reader.specs.Tables.{pattern_table, template_table};
-ghost use Rattle.dna_reader.specs.Worked.{PatternWorked, TemplateWorked, SearchWorked, CommandWorked, ShortCommandWorked, NoNumeralWorked, OpenGroupWorked};
+ghost use Rattle.dna_reader.specs.Worked.{PatternWorked, TemplateWorked, SearchWorked, CommandWorked, ShortCommandWorked, NoNumeralWorked, OpenGroupWorked, PairWorked, SearchPairWorked};
 
 /// Each DNA is cut into pieces of a pattern, and so read as one, in exactly one way.
 pub fn one_pattern()
@@ -76,6 +76,12 @@ pub fn template_codes()
 /// The code of a pair is read as its pattern and then as its template, without RNA.
 pub fn pair_codes()
     ensures { PairCodeIsRead }
+{}
+
+/// Codes worked by hand.
+pub fn codes_worked()
+    ensures pair { PairWorked }
+    ensures search { SearchPairWorked }
 {}
 
 /// A writer of lines that stands within commands has written a front of their lines.

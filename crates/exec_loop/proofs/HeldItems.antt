@@ -15,7 +15,7 @@ use Rattle.dna_items.specs.declared.items.TplItem.{TplItem}
 use Rattle.dna_items.specs.declared.items.TplItem.TheVariants.{Base as TplLiteral, Group, Len}
 use Rattle.dna_items.specs.Balance.{start_of, stop_of, starts, stops, IsBalanced}
 use Rattle.dna_items.specs.Held.{held, held_pattern_item, held_template_item, held_pattern, held_template}
-use Rattle.matcher.specs.Match.{Leads, LeadThrough, IsMatch, HasNoMatch}
+use Rattle.matcher.specs.Match.{Meets, LeadThrough, IsMatch, HasNoMatch}
 use Rattle.matcher.specs.Groups.{IsPartner, IsGroup, AreGroups}
 use Rattle.matcher.specs.Found.{moved}
 use Rattle.replacer.specs.Replacement.{text_of, put_by, replacement, texts_of, replaced}
@@ -31,31 +31,31 @@ held_skip : (i j n len : ℕ) → len < 2 ^ 63 → j ≤ len → j ≡ i + n →
 unfolding held
 held_skip i j n len small within e = omega arith
 
-leads_held : (d : List Base) (item : PatItem) (i j : ℕ) → length d < 2 ^ 63 → Leads d (held_pattern_item item) i j → Leads d item i j
-leads_held d (Literal b) i j small x = x
-leads_held d (Skip n) i j small x = (skip_held i j n (length d) small x.1 x.0, x.1)
-leads_held d (Search s) i j small x = x
-leads_held d GroupStart i j small x = x
-leads_held d GroupStop i j small x = x
+meets_held : (d : List Base) (item : PatItem) (i j : ℕ) → length d < 2 ^ 63 → Meets d (held_pattern_item item) i j → Meets d item i j
+meets_held d (Literal b) i j small x = x
+meets_held d (Skip n) i j small x = (skip_held i j n (length d) small x.1 x.0, x.1)
+meets_held d (Search s) i j small x = x
+meets_held d GroupStart i j small x = x
+meets_held d GroupStop i j small x = x
 
-held_leads : (d : List Base) (item : PatItem) (i j : ℕ) → length d < 2 ^ 63 → Leads d item i j → Leads d (held_pattern_item item) i j
-held_leads d (Literal b) i j small x = x
-held_leads d (Skip n) i j small x = (held_skip i j n (length d) small x.1 x.0, x.1)
-held_leads d (Search s) i j small x = x
-held_leads d GroupStart i j small x = x
-held_leads d GroupStop i j small x = x
+held_meets : (d : List Base) (item : PatItem) (i j : ℕ) → length d < 2 ^ 63 → Meets d item i j → Meets d (held_pattern_item item) i j
+held_meets d (Literal b) i j small x = x
+held_meets d (Skip n) i j small x = (held_skip i j n (length d) small x.1 x.0, x.1)
+held_meets d (Search s) i j small x = x
+held_meets d GroupStart i j small x = x
+held_meets d GroupStop i j small x = x
 
 through_held : (d : List Base) (items : List PatItem) (i : ℕ) (places : List ℕ) → length d < 2 ^ 63 → LeadThrough d (held_pattern items) i places → LeadThrough d items i places
 through_held d [] i [] small x = x
 through_held d [] i (j ∷ places) small x = x
 through_held d (item ∷ items) i [] small x = x
-through_held d (item ∷ items) i (j ∷ places) small x = (leads_held d item i j small x.0, through_held d items j places small x.1)
+through_held d (item ∷ items) i (j ∷ places) small x = (meets_held d item i j small x.0, through_held d items j places small x.1)
 
 held_through : (d : List Base) (items : List PatItem) (i : ℕ) (places : List ℕ) → length d < 2 ^ 63 → LeadThrough d items i places → LeadThrough d (held_pattern items) i places
 held_through d [] i [] small x = x
 held_through d [] i (j ∷ places) small x = x
 held_through d (item ∷ items) i [] small x = x
-held_through d (item ∷ items) i (j ∷ places) small x = (held_leads d item i j small x.0, held_through d items j places small x.1)
+held_through d (item ∷ items) i (j ∷ places) small x = (held_meets d item i j small x.0, held_through d items j places small x.1)
 
 pub match_held : (d : List Base) (items : List PatItem) (places : List ℕ) → length d < 2 ^ 63 → IsMatch d (held_pattern items) places → IsMatch d items places
 match_held d items [] small x = x

@@ -8,9 +8,9 @@ use Rattle.fuun_base.proofs.OccurrenceLemmas.{base_or, first_or_absent}
 use Rattle.dna_items.specs.declared.items.PatItem.{PatItem}
 use Rattle.dna_items.specs.declared.items.PatItem.TheVariants.{Base as Literal, Skip, Search, GroupStart, GroupStop}
 use Rattle.matcher.specs.Laws.{AtMostOneMatch, HasMatchOrNone}
-use Rattle.matcher.specs.Match.{Leads, LeadThrough, HasNoMatch}
-use Rattle.matcher.specs.Step.{LeadsNowhere, LeadNowhere}
-use Rattle.matcher.proofs.Places.{leads_same, through_same}
+use Rattle.matcher.specs.Match.{Meets, LeadThrough, HasNoMatch}
+use Rattle.matcher.specs.Step.{MeetsNowhere, LeadNowhere}
+use Rattle.matcher.proofs.Places.{meets_same, through_same}
 
 pub match_is_one : AtMostOneMatch
 match_is_one d items [] b x y = absurd x
@@ -31,44 +31,44 @@ base_at_or (x ∷ d) zero b =
     ]
 base_at_or (x ∷ d) (suc i) b = base_at_or d i b
 
-abbrev LeadsSomewhere : List Base → PatItem → ℕ → Type 0
-LeadsSomewhere d item i = (j : ℕ) × Leads d item i j
+abbrev MeetsSomewhere : List Base → PatItem → ℕ → Type 0
+MeetsSomewhere d item i = (j : ℕ) × Meets d item i j
 
-leads_or : (d : List Base) (item : PatItem) (i : ℕ) → LeadsSomewhere d item i ⊎ LeadsNowhere d item i
-leads_or d (Literal b) i =
+meets_or : (d : List Base) (item : PatItem) (i : ℕ) → MeetsSomewhere d item i ⊎ MeetsNowhere d item i
+meets_or d (Literal b) i =
     elim (base_at_or d i b) [
       | inl there ↦ inl (i + 1, (there, refl))
       | inr other ↦ inr (λ j leads. other leads.0)
     ]
-leads_or d (Skip n) i =
+meets_or d (Skip n) i =
     elim (cases_lt (length d) (i + n)) [
       | inl past ↦ inr (λ j leads. let e : j ≡ i + n = leads.0 in let within : j ≤ length d = leads.1 in omega arith)
       | inr within ↦ inl (i + n, (refl, within))
     ]
-leads_or d (Search s) i =
+meets_or d (Search s) i =
     elim (first_or_absent s d i) [
       | inl found ↦ inl (found.0 + length s, (found.0, found.1, refl))
       | inr absent ↦ inr (λ j leads. absent leads.0 leads.1.after leads.1.stands)
     ]
-leads_or d GroupStart i = inl (i, refl)
-leads_or d GroupStop i = inl (i, refl)
+meets_or d GroupStart i = inl (i, refl)
+meets_or d GroupStop i = inl (i, refl)
 
 abbrev ThroughSomewhere : List Base → List PatItem → ℕ → Type 0
 ThroughSomewhere d items i = (places : List ℕ) × LeadThrough d items i places
 
-nowhere_first : (d : List Base) (item : PatItem) (items : List PatItem) (i : ℕ) → LeadsNowhere d item i → LeadNowhere d (item ∷ items) i
+nowhere_first : (d : List Base) (item : PatItem) (items : List PatItem) (i : ℕ) → MeetsNowhere d item i → LeadNowhere d (item ∷ items) i
 nowhere_first d item items i none [] x = x
 nowhere_first d item items i none (j ∷ places) x = none j x.0
 
-nowhere_then : (d : List Base) (item : PatItem) (items : List PatItem) (i j : ℕ) → Leads d item i j → LeadNowhere d items j → LeadNowhere d (item ∷ items) i
+nowhere_then : (d : List Base) (item : PatItem) (items : List PatItem) (i j : ℕ) → Meets d item i j → LeadNowhere d items j → LeadNowhere d (item ∷ items) i
 nowhere_then d item items i j leads none [] x = x
 nowhere_then d item items i j leads none (k ∷ places) x =
-    none places (subst (λ n. LeadThrough d items n places) (leads_same d item i k j x.0 leads) x.1)
+    none places (subst (λ n. LeadThrough d items n places) (meets_same d item i k j x.0 leads) x.1)
 
 through_or : (d : List Base) (items : List PatItem) (i : ℕ) → ThroughSomewhere d items i ⊎ LeadNowhere d items i
 through_or d [] i = inl ([], tt)
 through_or d (item ∷ items) i =
-    elim (leads_or d item i) [
+    elim (meets_or d item i) [
       | inr none ↦ inr (nowhere_first d item items i none)
       | inl here ↦ elim (through_or d items here.0) [
         | inl further ↦ inl (here.0 ∷ further.0, (here.1, further.1))

@@ -5,25 +5,25 @@ use Rattle.fuun_base.specs.declared.letters.Base.{Base}
 use Rattle.fuun_base.proofs.OccurrenceLemmas.{first_is_one}
 use Rattle.dna_items.specs.declared.items.PatItem.{PatItem}
 use Rattle.dna_items.specs.declared.items.PatItem.TheVariants.{Base as Literal, Skip, Search, GroupStart, GroupStop}
-use Rattle.matcher.specs.Match.{Leads, LeadThrough, last_place}
+use Rattle.matcher.specs.Match.{Meets, LeadThrough, last_place}
 
-pub leads_same : (d : List Base) (item : PatItem) (i j j' : ℕ) → Leads d item i j → Leads d item i j' → j ≡ j'
-leads_same d (Literal b) i j j' x y = x.1 ∙ sym y.1
-leads_same d (Skip n) i j j' x y = x.0 ∙ sym y.0
-leads_same d (Search s) i j j' x y =
+pub meets_same : (d : List Base) (item : PatItem) (i j j' : ℕ) → Meets d item i j → Meets d item i j' → j ≡ j'
+meets_same d (Literal b) i j j' x y = x.1 ∙ sym y.1
+meets_same d (Skip n) i j j' x y = x.0 ∙ sym y.0
+meets_same d (Search s) i j j' x y =
     let e : x.0 ≡ y.0 = first_is_one s d i x.0 y.0 x.1 y.1 in
     x.2 ∙ ap (λ n. n + length s) e ∙ sym y.2
-leads_same d GroupStart i j j' x y = x ∙ sym y
-leads_same d GroupStop i j j' x y = x ∙ sym y
+meets_same d GroupStart i j j' x y = x ∙ sym y
+meets_same d GroupStop i j j' x y = x ∙ sym y
 
-pub leads_rise : (d : List Base) (item : PatItem) (i j : ℕ) → Leads d item i j → i ≤ length d → (i ≤ j) × (j ≤ length d)
-leads_rise d (Literal b) i j x h =
+pub meets_rise : (d : List Base) (item : PatItem) (i j : ℕ) → Meets d item i j → i ≤ length d → (i ≤ j) × (j ≤ length d)
+meets_rise d (Literal b) i j x h =
     let within : i < length d = slice_get_within d i b x.0 in
     (omega (arith, x.1), omega (arith, x.1))
-leads_rise d (Skip n) i j x h = (omega (arith, x.0), x.1)
-leads_rise d (Search s) i j x h = (omega (arith, x.2, x.1.after), omega (arith, x.2, x.1.stands.within))
-leads_rise d GroupStart i j x h = (omega arith, omega arith)
-leads_rise d GroupStop i j x h = (omega arith, omega arith)
+meets_rise d (Skip n) i j x h = (omega (arith, x.0), x.1)
+meets_rise d (Search s) i j x h = (omega (arith, x.2, x.1.after), omega (arith, x.2, x.1.stands.within))
+meets_rise d GroupStart i j x h = (omega arith, omega arith)
+meets_rise d GroupStop i j x h = (omega arith, omega arith)
 
 pub through_length : (d : List Base) (items : List PatItem) (i : ℕ) (ps : List ℕ) → LeadThrough d items i ps → length ps ≡ length items
 through_length d [] i [] h = refl
@@ -38,7 +38,7 @@ through_same d [] i (j ∷ ps) qs x y = absurd x
 through_same d (item ∷ items) i [] qs x y = absurd x
 through_same d (item ∷ items) i (j ∷ ps) [] x y = absurd y
 through_same d (item ∷ items) i (j ∷ ps) (j' ∷ qs) x y =
-    let e : j ≡ j' = leads_same d item i j j' x.0 y.0 in
+    let e : j ≡ j' = meets_same d item i j j' x.0 y.0 in
     let rest : ps ≡ qs = through_same d items j ps qs x.1 (subst (λ n. LeadThrough d items n qs) (sym e) y.1) in
     cc
 
@@ -47,7 +47,7 @@ through_rise d [] i [] h within = (omega arith, within)
 through_rise d [] i (j ∷ ps) h within = absurd h
 through_rise d (item ∷ items) i [] h within = absurd h
 through_rise d (item ∷ items) i (j ∷ ps) h within =
-    let here : (i ≤ j) × (j ≤ length d) = leads_rise d item i j h.0 within in
+    let here : (i ≤ j) × (j ≤ length d) = meets_rise d item i j h.0 within in
     let rest : (j ≤ last_place (j ∷ ps)) × (last_place (j ∷ ps) ≤ length d) = through_rise d items j ps h.1 here.1 in
     (omega (arith, here.0, rest.0), rest.1)
 

@@ -8,8 +8,8 @@ use Rattle.fuun_base.specs.Occurrence.{Stands}
 use Rattle.dna_items.specs.declared.items.PatItem.{PatItem}
 use Rattle.dna_items.specs.declared.items.PatItem.TheVariants.{Base as Literal}
 use Rattle.dna_items.specs.Balance.{starts, stops}
-use Rattle.matcher.specs.Match.{Leads, LeadThrough, last_place}
-use Rattle.matcher.specs.Step.{LeadsNowhere, LeadNowhere, LeadsOver, Moves}
+use Rattle.matcher.specs.Match.{Meets, LeadThrough, last_place}
+use Rattle.matcher.specs.Step.{MeetsNowhere, LeadNowhere, LeadsOver, Moves}
 use Rattle.matcher.specs.declared.passing.Passed.{Passed}
 use Rattle.matcher.proofs.Places.{Parts, through_parts}
 use Rattle.matcher.proofs.Ranges.{range_join, range_none, range_one}
@@ -89,11 +89,11 @@ over_run d items at count bs are some within stands =
       reached = run_last bs at ∙ ap (λ n. at + n) size;
     }
 
-pub nowhere_item : (d : List Base) (item : PatItem) (items : List PatItem) (at : ℕ) → LeadsNowhere d item at → LeadNowhere d (item ∷ items) at
+pub nowhere_item : (d : List Base) (item : PatItem) (items : List PatItem) (at : ℕ) → MeetsNowhere d item at → LeadNowhere d (item ∷ items) at
 nowhere_item d item items at lacks [] through = absurd through
 nowhere_item d item items at lacks (j ∷ ps) through = lacks j through.0
 
-pub over_item : (d : List Base) (item : PatItem) (items : List PatItem) (at j : ℕ) → Leads d item at j → LeadsOver d (item ∷ items) at 1 j
+pub over_item : (d : List Base) (item : PatItem) (items : List PatItem) (at j : ℕ) → Meets d item at j → LeadsOver d (item ∷ items) at 1 j
 over_item d item items at j leads = record {
   some = omega arith;
   within = omega arith;

@@ -6,8 +6,8 @@ use Rattle.fuun_base.specs.declared.letters.Base.{Base}
 use Rattle.fuun_base.specs.Occurrence.{IsFirst, Stands}
 use Rattle.dna_items.specs.declared.items.PatItem.{PatItem}
 use Rattle.dna_items.specs.declared.items.PatItem.TheVariants.{Base as Literal, Skip, Search, GroupStart, GroupStop}
-use Rattle.matcher.specs.Match.{Leads, LeadThrough, last_place}
-use Rattle.matcher.proofs.Places.{leads_rise}
+use Rattle.matcher.specs.Match.{Meets, LeadThrough, last_place}
+use Rattle.matcher.proofs.Places.{meets_rise}
 
 pub slice_get-drop : {X : Type 0} (xs : List X) (n i : ℕ) → slice_get (drop n xs) i ≡ slice_get xs (n + i)
 slice_get-drop xs zero i = ap (slice_get xs) (sym (zero-add i))
@@ -49,28 +49,28 @@ first_back s d p i f within h = record {
       h.least (e - p) (omega arith) (omega arith) (stands_shift s d p (e - p) (subst (Stands s d) is there));
 }
 
-pub leads_shift : (d : List Base) (item : PatItem) (p i j : ℕ) → p ≤ i → i ≤ length d → Leads d item i j → Leads (drop p d) item (i - p) (j - p)
-leads_shift d (Literal b) p i j after within h =
+pub meets_shift : (d : List Base) (item : PatItem) (p i j : ℕ) → p ≤ i → i ≤ length d → Meets d item i j → Meets (drop p d) item (i - p) (j - p)
+meets_shift d (Literal b) p i j after within h =
     let e : p + (i - p) ≡ i = omega arith in
     (slice_get-drop d p (i - p) ∙ ap (slice_get d) e ∙ h.0, omega (arith, h.1))
-leads_shift d (Skip n) p i j after within h = (omega (arith, h.0), rw (length-drop p d) (omega (arith, h.1)))
-leads_shift d (Search s) p i j after within h =
+meets_shift d (Skip n) p i j after within h = (omega (arith, h.0), rw (length-drop p d) (omega (arith, h.1)))
+meets_shift d (Search s) p i j after within h =
     let from : i ≤ h.0 = h.1.after in
     let a : i ≡ p + (i - p) = omega arith in
     let b : h.0 ≡ p + (h.0 - p) = omega arith in
     let moved : IsFirst s d (p + (i - p)) (p + (h.0 - p)) = subst (λ n. IsFirst s d n (p + (h.0 - p))) a (subst (λ n. IsFirst s d i n) b h.1) in
     (h.0 - p, first_shift s d p (i - p) (h.0 - p) (omega arith) moved, omega (arith, h.2))
-leads_shift d GroupStart p i j after within h = ap (λ n. n - p) h
-leads_shift d GroupStop p i j after within h = ap (λ n. n - p) h
+meets_shift d GroupStart p i j after within h = ap (λ n. n - p) h
+meets_shift d GroupStop p i j after within h = ap (λ n. n - p) h
 
-pub leads_back : (d : List Base) (item : PatItem) (p i j : ℕ) → p ≤ length d → Leads (drop p d) item i j → Leads d item (p + i) (p + j)
-leads_back d (Literal b) p i j within h = (sym (slice_get-drop d p i) ∙ h.0, omega (arith, h.1))
-leads_back d (Skip n) p i j within h =
+pub meets_back : (d : List Base) (item : PatItem) (p i j : ℕ) → p ≤ length d → Meets (drop p d) item i j → Meets d item (p + i) (p + j)
+meets_back d (Literal b) p i j within h = (sym (slice_get-drop d p i) ∙ h.0, omega (arith, h.1))
+meets_back d (Skip n) p i j within h =
     let inside : j ≤ length d - p = rw (length-drop p d) at h.1 in
     (omega (arith, h.0), omega arith)
-leads_back d (Search s) p i j within h = (p + h.0, first_back s d p i h.0 within h.1, omega (arith, h.2))
-leads_back d GroupStart p i j within h = ap (λ n. p + n) h
-leads_back d GroupStop p i j within h = ap (λ n. p + n) h
+meets_back d (Search s) p i j within h = (p + h.0, first_back s d p i h.0 within h.1, omega (arith, h.2))
+meets_back d GroupStart p i j within h = ap (λ n. p + n) h
+meets_back d GroupStop p i j within h = ap (λ n. p + n) h
 
 -- a place as it is counted from another one
 abbrev pub back : ℕ → ℕ → ℕ
@@ -81,15 +81,15 @@ through_shift d [] p i [] after within h = tt
 through_shift d [] p i (j ∷ ps) after within h = absurd h
 through_shift d (item ∷ items) p i [] after within h = absurd h
 through_shift d (item ∷ items) p i (j ∷ ps) after within h =
-    let on : (i ≤ j) × (j ≤ length d) = leads_rise d item i j h.0 within in
-    (leads_shift d item p i j after within h.0, through_shift d items p j ps (omega (arith, on.0)) on.1 h.1)
+    let on : (i ≤ j) × (j ≤ length d) = meets_rise d item i j h.0 within in
+    (meets_shift d item p i j after within h.0, through_shift d items p j ps (omega (arith, on.0)) on.1 h.1)
 
 pub through_back : (d : List Base) (items : List PatItem) (p i : ℕ) (ps : List ℕ) → p ≤ length d → LeadThrough (drop p d) items i ps → LeadThrough d items (p + i) (map (λ n. p + n) ps)
 through_back d [] p i [] within h = tt
 through_back d [] p i (j ∷ ps) within h = absurd h
 through_back d (item ∷ items) p i [] within h = absurd h
 through_back d (item ∷ items) p i (j ∷ ps) within h =
-    (leads_back d item p i j within h.0, through_back d items p j ps within h.1)
+    (meets_back d item p i j within h.0, through_back d items p j ps within h.1)
 
 pub index-back : (p : ℕ) (ps : List ℕ) (n : ℕ) → get_or (map (back p) ps) n 0 ≡ get_or ps n 0 - p
 index-back p [] n = omega arith

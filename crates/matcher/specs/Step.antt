@@ -4,17 +4,17 @@ use Rattle.fuun_base.specs.declared.letters.Base.{Base}
 use Rattle.dna_items.specs.declared.items.PatItem.{PatItem}
 use Rattle.dna_items.specs.declared.items.PatItem.TheVariants.{Base as Literal, Skip, Search, GroupStart, GroupStop}
 use Rattle.dna_items.specs.Balance.{starts, stops}
-use Rattle.matcher.specs.Match.{Leads, LeadThrough, last_place}
+use Rattle.matcher.specs.Match.{Meets, LeadThrough, last_place}
 
--- no place is led to by the item
-abbrev pub LeadsNowhere : List Base → PatItem → ℕ → Type 0
-LeadsNowhere d item i = (j : ℕ) → Leads d item i j → ⊥
+-- with this place none meets what the item asks
+abbrev pub MeetsNowhere : List Base → PatItem → ℕ → Type 0
+MeetsNowhere d item i = (j : ℕ) → Meets d item i j → ⊥
 
 -- the place that an item leads to, or that there is none
 abbrev pub Moves : List Base → PatItem → ℕ → Option ℕ → Type 0
-Moves d item i moved = MatchOption moved (LeadsNowhere d item i) (Leads d item i)
+Moves d item i moved = MatchOption moved (MeetsNowhere d item i) (Meets d item i)
 
--- no places are led through by the items
+-- the items lead through no places
 abbrev pub LeadNowhere : List Base → List PatItem → ℕ → Type 0
 LeadNowhere d items i = (places : List ℕ) → LeadThrough d items i places → ⊥
 
