@@ -3,7 +3,8 @@ use Rattle.std.proofs.Common.{ℕ, Bool, Option, Some, None, List, [], ◌∷◌
 use Rattle.std.specs.Prelude.{IsTrue}
 use Rattle.fuun_top.specs.Answer.{AreAllowed, MayAsk}
 use Rattle.fuun_top.specs.Reading.{files_of}
-use Rattle.fuun_top.specs.Words.{Request}
+use Rattle.fuun_top.specs.Asked.{sorted}
+use Rattle.fuun_words.specs.declared.request.Request.{Request}
 
 each_allowed : (allows : List ℕ → Bool) (names : List (List ℕ)) → ((name : List ℕ) → IsTrue (allows name)) → AreAllowed allows names
 each_allowed allows [] all = tt
@@ -11,4 +12,4 @@ each_allowed allows (name ∷ names) all = (all name, each_allowed allows names 
 
 pub may_ask_all : (allows : List ℕ → Bool) (asked : Option Request) → ((name : List ℕ) → IsTrue (allows name)) → MayAsk allows asked
 may_ask_all allows None all = tt
-may_ask_all allows (Some asked) all = each_allowed allows (files_of asked) all
+may_ask_all allows (Some asked) all = each_allowed allows (files_of (sorted asked)) all

@@ -3,7 +3,7 @@ use Rattle.std.proofs.Common.{◌≡◌, ℕ, ◌+◌, ◌<◌, List, [], ◌∷
 use Rattle.std.proofs.lemmas.List.{take_more}
 use Rattle.fuun_base.specs.declared.letters.Base.{Base}
 use Rattle.painter.specs.Picture.{Picture, Table, Acts, Builds}
-use Rattle.painter.proofs.Outcomes.{builds_append}
+use Rattle.painter.specs.Taking.{builds_append}
 
 -- one command more of a list
 pub builds_more : (side most : ℕ) (table : Table) (rna : List (List Base)) (i : ℕ) (command : List Base) (p q r : Picture) → i < length rna

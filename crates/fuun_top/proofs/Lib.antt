@@ -1,5 +1,5 @@
 pub mod LineLemmas
-pub mod NumberLemmas
+pub mod LetterLemmas
 pub mod DrawingLemmas
 pub mod OneOutput
 pub mod WrittenOutput

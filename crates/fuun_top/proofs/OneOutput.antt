@@ -3,6 +3,8 @@ use Rattle.std.proofs.Common.{◌≡◌, ℕ, Option, Some, None, Result, Ok, Er
 use Rattle.std.specs.List.{AllByRecursion}
 use Rattle.std.specs.Option.{option_map}
 use Rattle.fuun_base.specs.declared.letters.Base.{Base}
+use Rattle.rna_code.specs.declared.profile.Profile.{Profile}
+use Rattle.rna_code.specs.declared.profile.Profile.TheVariants as profile
 use Rattle.rna_code.specs.Commands.{act_of}
 use Rattle.layers.specs.Layers.{top_of}
 use Rattle.painter.specs.Picture.{Picture, Builds, start}
@@ -20,8 +22,13 @@ use Rattle.fuun_top.specs.declared.status.Status.{Status}
 use Rattle.fuun_top.specs.declared.status.Status.TheVariants.{Done, Usage}
 use Rattle.fuun_top.specs.Output.{Output, Body, Text, Drawing, IsBody, IsRunOutput, IsOutputOf, OutputBy, OutputOf, plain_body, run_body, spent_is_done, status_by, refusal, picture_side, most_layers}
 use Rattle.fuun_top.specs.OutputLaws.{IsTold, AreTold, HasOutput, HasOneOutput}
-use Rattle.fuun_top.specs.Reading.{Files, Reading, then_read, within, bytes_in, dna_in, judged_dna, prefix_in, prefix_files, rna_in, judged_rna, start_in, inputs_of}
-use Rattle.fuun_top.specs.Words.{Request, RunWords, Run as asked_run, Rna as asked_rna, request}
+use Rattle.fuun_top.specs.Reading.{Files, Reading, then_read, within, bytes_in, dna_in, judged_dna, prefix_in, prefix_files, files_of, rna_in, judged_rna, start_in, inputs_of}
+use Rattle.fuun_top.specs.Asked.{sorted}
+use Rattle.fuun_top.specs.declared.request.Asked.{Asked}
+use Rattle.fuun_top.specs.declared.request.Asked.TheVariants.{Run as asked_run, Rna as asked_rna}
+use Rattle.fuun_words.specs.declared.request.Request.{Request}
+use Rattle.fuun_words.specs.declared.request.RunWords.{RunWords}
+use Rattle.fuun_words.specs.Requests.{request}
 
 -- what has an output, and what has only one
 abbrev pub Has : (Output → Type 0) → Type 0
@@ -30,23 +37,26 @@ Has Is = (output : Output) × Is output
 abbrev pub HasOne : (Output → Type 0) → Type 0
 HasOne Is = (a b : Output) → Is a → Is b → a ≡ b
 
-drawn_has : (rna : List (List Base)) → (picture : Picture) × Builds picture_side most_layers act_of rna (start picture_side) picture
+drawn_has : (profile : Profile) (rna : List (List Base)) → (picture : Picture) × Builds (picture_side profile) (most_layers profile) (act_of profile) rna (start (picture_side profile)) picture
 unfolding picture_side most_layers
-drawn_has rna =
-    let drawn = builds_always 600 10 act_of rna (start 600) (start_is_picture 600 10 (omega arith) (omega arith) (omega arith)) in
+drawn_has profile.Plain rna =
+    let drawn = builds_always 600 10 (act_of profile.Plain) rna (start 600) (start_is_picture 600 10 (omega arith) (omega arith) (omega arith)) in
+    (drawn.0, drawn.1.0)
+drawn_has profile.Wide rna =
+    let drawn = builds_always 1024 16 (act_of profile.Wide) rna (start 1024) (start_is_picture 1024 16 (omega arith) (omega arith) (omega arith)) in
     (drawn.0, drawn.1.0)
 
 body_has : (status : Status) (body : Body) → Has (IsBody status body)
 body_has status (Text bytes) = (record { status = status; bytes = bytes }, refl)
-body_has status (Drawing rna) =
-    let drawn = drawn_has rna in
-    (record { status = status; bytes = ppm picture_side (top_of drawn.0.layers) }, record { picture = drawn.0; builds = drawn.1; is = refl })
+body_has status (Drawing profile rna) =
+    let drawn = drawn_has profile rna in
+    (record { status = status; bytes = ppm (picture_side profile) (top_of drawn.0.layers) }, record { picture = drawn.0; builds = drawn.1; is = refl })
 
 body_one : (status : Status) (body : Body) → HasOne (IsBody status body)
 body_one status (Text bytes) a b p q = p ∙ sym q
-body_one status (Drawing rna) a b p q =
-    p.is ∙ ap (λ (picture : Picture). record { status = status; bytes = ppm picture_side (top_of picture.layers) })
-    (builds_once picture_side most_layers act_of rna (start picture_side) p.picture q.picture p.builds q.builds) ∙ sym q.is
+body_one status (Drawing profile rna) a b p q =
+    p.is ∙ ap (λ (picture : Picture). record { status = status; bytes = ppm (picture_side profile) (top_of picture.layers) })
+    (builds_once (picture_side profile) (most_layers profile) (act_of profile) rna (start (picture_side profile)) p.picture q.picture p.builds q.builds) ∙ sym q.is
 
 run_has : (verb : RunVerb) (dna : List Base) (budget limit : ℕ) → Has (IsRunOutput verb dna budget limit)
 run_has verb dna budget limit =
@@ -99,7 +109,7 @@ start_known files words told =
     then_known (dna_in files file.Dna words.dna) _ (dna_known files file.Dna words.dna told.0) (λ dna.
     then_known (prefix_in files words.prefix) _ (prefix_known files words.prefix told.1) (λ prefix. (_, refl)))
 
-inputs_known : (files : Files) (asked : Request) → AreTold files (Some asked) → Known (inputs_of files asked)
+inputs_known : (files : Files) (asked : Asked) → AllByRecursion (IsTold files) (files_of asked) → Known (inputs_of files asked)
 inputs_known files (asked_run verb words) told =
     then_known (start_in files words) (λ dna. Some (Ok (inputs.Run verb dna words.budget words.limit))) (start_known files words told) (λ dna. (_, refl))
 inputs_known files (asked_rna verb name) told = then_known (rna_in files name) _ (rna_known files name told.0) (λ commands. (_, refl))
@@ -116,11 +126,11 @@ by_one (Some (Ok inputs)) a b p q = output_one inputs a b p q
 
 asked_has : (files : Files) (asked : Option Request) → AreTold files asked → Has (OutputOf files asked)
 asked_has files None told = (refusal Usage, refl)
-asked_has files (Some asked) told = by_has (inputs_of files asked) (inputs_known files asked told)
+asked_has files (Some asked) told = by_has (inputs_of files (sorted asked)) (inputs_known files (sorted asked) told)
 
 asked_one : (files : Files) (asked : Option Request) → HasOne (OutputOf files asked)
 asked_one files None a b p q = p ∙ sym q
-asked_one files (Some asked) a b p q = by_one (inputs_of files asked) a b p q
+asked_one files (Some asked) a b p q = by_one (inputs_of files (sorted asked)) a b p q
 
 pub has_output : HasOutput
 has_output files words told = asked_has files (request words) told

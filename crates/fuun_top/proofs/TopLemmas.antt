@@ -9,11 +9,20 @@ use Rattle.fuun_top.specs.declared.inputs.Inputs.TheVariants as inputs
 use Rattle.fuun_top.specs.declared.status.Status.{Status}
 use Rattle.fuun_top.specs.declared.status.Status.TheVariants.{Done, ReadFault, NoMemory}
 use Rattle.fuun_top.specs.Answer.{AnswersOrFails}
-use Rattle.fuun_top.specs.Output.{Output, Body, Text, Drawing, IsBody, IsOutputOf, OutputBy, plain_body, run_body, spent_is_done, status_by}
-use Rattle.fuun_top.specs.Reading.{Reading}
+use Rattle.fuun_top.specs.Output.{Output, Body, Text, Drawing, IsBody, IsOutputOf, OutputBy, OutputOf, plain_body, run_body, spent_is_done, status_by}
+use Rattle.fuun_top.specs.Asked.{sorted}
+use Rattle.fuun_top.specs.declared.request.Asked.{Asked}
+use Rattle.fuun_top.specs.Reading.{Files, Reading, inputs_of}
+use Rattle.fuun_words.specs.declared.request.Request.{Request}
 use Rattle.fuun_top.specs.Stages.{ByOutput, stage_of, IsOfInputs}
 use Rattle.fuun_top.specs.WritingRoom.{Wrote, Whole, CutOff, NoRoom}
 use Rattle.fuun_top.proofs.OneOutput.{output_one}
+
+-- the output of words is that of what they ask for
+pub asked_output : (files : Files) (found : Option Request) (request : Request) (asked : Asked) (output : Output) → found ≡ Some request → asked ≡ sorted request
+    → OutputOf files found output → OutputBy (inputs_of files asked) output
+asked_output files found request asked output taken is by =
+    subst (λ a. OutputBy (inputs_of files a) output) (sym is) (subst (λ f. OutputOf files f output) taken by)
 
 abbrev pub Agrees : Reading Inputs → Result Inputs Status → Type 0
 Agrees known result = IfSome known (λ read. (result ≡ read) ⊎ (result ≡ Err NoMemory) ⊎ (result ≡ Err ReadFault))
@@ -31,7 +40,7 @@ read_output (Some (Ok known)) inputs output (inr (inr e)) by = absurd (cc e)
 -- an output is decided where output is
 body_status : (status : Status) (body : Body) (output : Output) → IsBody status body output → output.status ≡ status
 body_status status (Text bytes) output is = ap (λ (o : Output). o.status) is
-body_status status (Drawing rna) output is = ap (λ (o : Output). o.status) is.is
+body_status status (Drawing profile rna) output is = ap (λ (o : Output). o.status) is.is
 
 end_stage : (spent : Bool) (end : RunEnd) → stage_of (status_by spent end) ≡ ByOutput
 end_stage spent (end.Finished attempts) = refl
@@ -59,6 +68,12 @@ refused_whole None status output told early by same = absurd by
 refused_whole (Some (Err refused)) status output told early by same = sym (ap (λ (o : Output). appended told o.bytes) by ∙ appended-nil told)
 refused_whole (Some (Ok inputs)) status output told early by same =
     absurd (subst IsOfInputs (ap stage_of same ∙ output_stage inputs output by) early)
+
+-- words that were not read
+pub unread_whole : (files : Files) (asked : Option Request) (status : Status) (output : Output) (told : Option (List ℕ)) → IsOfInputs (stage_of status)
+    → OutputOf files asked output → status ≡ output.status → told ≡ appended told output.bytes
+unread_whole files None status output told early by same = sym (ap (λ (o : Output). appended told o.bytes) by ∙ appended-nil told)
+unread_whole files (Some asked) status output told early by same = refused_whole (inputs_of files (sorted asked)) status output told early by same
 
 -- what was written, against the output of inputs
 pub wrote_answer : (inputs : Inputs) (result : Status) (old new : Option (List ℕ)) (before after : ℕ) (output : Output)

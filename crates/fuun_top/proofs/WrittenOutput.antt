@@ -3,9 +3,9 @@ use Rattle.std.proofs.Common.{◌≡◌, ℕ, Option, Result, Ok, Err, List, sym
 use Rattle.fuun_base.specs.declared.letters.Base.{Base}
 use Rattle.fuun_io.specs.Counts.{HasCause}
 use Rattle.fuun_io.specs.Written.{Puts}
-use Rattle.exec_loop.specs.declared.machine.RunEnd.{RunEnd}
 use Rattle.exec_loop.specs.Run.{Run}
 use Rattle.fuun_top.specs.declared.request.RunVerb.{RunVerb}
+use Rattle.fuun_top.specs.declared.running.Ran.{Ran}
 use Rattle.fuun_top.specs.declared.status.Status.{Status}
 use Rattle.fuun_top.specs.Output.{Output, Body, IsBody, IsRunOutput, run_body, spent_is_done, status_by}
 use Rattle.fuun_top.specs.WritingRoom.{Wrote, Whole, CutOff, NoRoom, RanTo, status_after}
@@ -24,16 +24,16 @@ wrote_as Is Other result old new before after also (CutOff output is fault front
 wrote_as Is Other result old new before after also (NoRoom memory same kept) = NoRoom memory same kept
 
 -- the body of a run that was made
-pub run_put : (verb : RunVerb) (dna : List Base) (budget limit : ℕ) (end : RunEnd) (rna : List (List Base)) (status : Status) (body : Body) (result : Status)
-    (old new : Option (List ℕ)) (before after : ℕ) → RanTo dna budget limit end rna → status ≡ status_by (spent_is_done verb) end
-    → ((run : Run) → run.rna ≡ rna → body ≡ run_body verb run) → Wrote (IsBody status body) result old new before after
+pub run_put : (verb : RunVerb) (dna : List Base) (budget limit : ℕ) (ran : Ran) (status : Status) (body : Body) (result : Status)
+    (old new : Option (List ℕ)) (before after : ℕ) → RanTo dna budget limit ran → status ≡ status_by (spent_is_done verb) ran.end
+    → ((run : Run) → run.rna ≡ ran.rna → run.dna ≡ ran.machine.dna → body ≡ run_body verb run) → Wrote (IsBody status body) result old new before after
     → Wrote (IsRunOutput verb dna budget limit) result old new before after
-run_put verb dna budget limit end rna status body result old new before after ran told is =
+run_put verb dna budget limit ran status body result old new before after made told is =
     wrote_as (IsBody status body) (IsRunOutput verb dna budget limit) result old new before after
     (λ output written. record {
-      run = ran.run;
-      is = ran.is;
+      run = made.run;
+      is = made.is;
       writes =
-          subst (λ s. IsBody s (run_body verb ran.run) output) (told ∙ ap (status_by (spent_is_done verb)) (sym ran.ends))
-          (subst (λ b. IsBody status b output) (is ran.run ran.gives) written);
+          subst (λ s. IsBody s (run_body verb made.run) output) (told ∙ ap (status_by (spent_is_done verb)) (sym made.ends))
+          (subst (λ b. IsBody status b output) (is made.run made.gives made.stands) written);
     })

@@ -6,7 +6,8 @@ use Rattle.fuun_io.specs.Counts.{raised}
 use Rattle.fuun_top.specs.declared.status.Status.{Status}
 use Rattle.fuun_top.specs.declared.status.Status.TheVariants.{ReadFault, WriteFault, NoMemory}
 use Rattle.fuun_top.specs.Reading.{Files, files_of}
-use Rattle.fuun_top.specs.Words.{Request}
+use Rattle.fuun_top.specs.Asked.{sorted}
+use Rattle.fuun_words.specs.declared.request.Request.{Request}
 
 -- the folder allows each of these names
 abbrev pub AreAllowed : (List ℕ → Bool) → List (List ℕ) → Type 0
@@ -15,7 +16,7 @@ AreAllowed allows names = AllByRecursion (λ name. IsTrue (allows name)) names
 -- the folder allows each name in the request
 abbrev pub MayAsk : (List ℕ → Bool) → Option Request → Type 0
 MayAsk allows None = Unit {0}
-MayAsk allows (Some asked) = AreAllowed allows (files_of asked)
+MayAsk allows (Some asked) = AreAllowed allows (files_of (sorted asked))
 
 -- the answer is this status, or memory is wanted, or a read or a write failed
 abbrev pub AnswersOrFails : Status → Status → Type 0
@@ -28,4 +29,4 @@ told_bytes files names = sum_by (λ name. option_map_or length (files name) 0) n
 -- each file that is asked for was given to its end, as far as its contents are told
 abbrev pub AreGiven : Files → ℕ → ℕ → Option Request → Type 0
 AreGiven files old new None = Unit {0}
-AreGiven files old new (Some asked) = raised old (told_bytes files (files_of asked)) ≤ new
+AreGiven files old new (Some asked) = raised old (told_bytes files (files_of (sorted asked))) ≤ new

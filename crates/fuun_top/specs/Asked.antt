@@ -1,20 +1,14 @@
--- The words of the program's own type, as what they ask for.
-use Rattle.std.specs.Option.{option_map}
-use Rattle.fuun_top.specs.declared.request.Request.{Request as Read}
-use Rattle.fuun_top.specs.declared.request.Request.TheVariants as read
-use Rattle.fuun_top.specs.declared.request.RunWords.{RunWords as ReadWords}
-use Rattle.fuun_top.specs.Words.{Request, RunWords, Run, Rna}
+-- What is asked for, by what it works on.
+use Rattle.fuun_words.specs.declared.request.Request.{Request}
+use Rattle.fuun_words.specs.declared.request.Request.TheVariants as words
+use Rattle.fuun_top.specs.declared.request.Asked.{Asked}
+use Rattle.fuun_top.specs.declared.request.Asked.TheVariants.{Run, Rna}
+use Rattle.fuun_top.specs.declared.request.RunVerb.TheVariants as run
+use Rattle.fuun_top.specs.declared.request.RnaVerb.TheVariants as rna
 
--- the words of a run
-abbrev pub words_of : ReadWords → RunWords
-words_of words = record {
-  dna = words.dna.now;
-  prefix = option_map (λ name. name.now) words.prefix;
-  budget = words.budget;
-  limit = words.limit;
-}
-
--- what is asked for
-abbrev pub asked : Read → Request
-asked (read.Run verb words) = Run verb (words_of words)
-asked (read.Rna verb rna) = Rna verb rna.now
+-- what a verb makes of a run, or of the commands of an RNA file
+abbrev pub sorted : Request → Asked
+sorted (words.Rna asked) = Run run.Rna asked
+sorted (words.Image asked profile) = Run (run.Image profile) asked
+sorted (words.Dna asked) = Run run.Dna asked
+sorted (words.Draw name profile) = Rna (rna.Draw profile) name

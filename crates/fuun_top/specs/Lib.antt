@@ -1,7 +1,6 @@
-pub mod Words
 pub mod StatusLine
 pub mod Stages
-pub mod RnaText
+pub mod Texts
 pub mod Reading
 pub mod Output
 pub mod Answer

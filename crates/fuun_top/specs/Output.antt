@@ -1,6 +1,8 @@
 -- What the plain machine answers to words and files: a status and bytes.
 use Rattle.std.specs.Prelude.{◌≡◌, ℕ, Bool, true, false, Option, Some, None, Ok, Err, List, []}
 use Rattle.fuun_base.specs.declared.letters.Base.{Base}
+use Rattle.rna_code.specs.declared.profile.Profile.{Profile}
+use Rattle.rna_code.specs.declared.profile.Profile.TheVariants as profile
 use Rattle.rna_code.specs.Commands.{act_of}
 use Rattle.layers.specs.Layers.{top_of}
 use Rattle.painter.specs.Picture.{Picture, Builds, start}
@@ -13,13 +15,15 @@ use Rattle.fuun_top.specs.declared.inputs.Inputs.TheVariants as inputs
 use Rattle.fuun_top.specs.declared.inputs.Plain.{Plain}
 use Rattle.fuun_top.specs.declared.inputs.Plain.TheVariants as plain
 use Rattle.fuun_top.specs.declared.request.RunVerb.{RunVerb}
-use Rattle.fuun_top.specs.declared.request.RunVerb.TheVariants.{Rna, Image}
+use Rattle.fuun_top.specs.declared.request.RunVerb.TheVariants.{Rna, Image, Dna}
 use Rattle.fuun_top.specs.declared.request.RnaVerb.TheVariants.{Draw}
 use Rattle.fuun_top.specs.declared.status.Status.{Status}
 use Rattle.fuun_top.specs.declared.status.Status.TheVariants.{Done, Usage, OutOfBudget, TooLong}
 use Rattle.fuun_top.specs.Reading.{Files, Reading, inputs_of}
-use Rattle.fuun_top.specs.RnaText.{rna_lines}
-use Rattle.fuun_top.specs.Words.{Request, request}
+use Rattle.fuun_top.specs.Asked.{sorted}
+use Rattle.fuun_top.specs.Texts.{rna_lines, letters}
+use Rattle.fuun_words.specs.declared.request.Request.{Request}
+use Rattle.fuun_words.specs.Requests.{request}
 
 -- a status with the bytes that are written before it
 pub record Output : Type 0 where
@@ -30,24 +34,26 @@ pub record Output : Type 0 where
 abbrev pub refusal : Status → Output
 refusal status = record { status = status; bytes = [] }
 
--- what is written: these bytes, or the picture that commands draw
+-- what is written: these bytes, or the picture that commands draw in a profile
 pub data Body : Type 0 where
   Text : List ℕ → Body
-  Drawing : List (List Base) → Body
+  Drawing : Profile → List (List Base) → Body
 
 -- what each verb makes of a run
 abbrev pub run_body : RunVerb → Run → Body
 run_body Rna run = Text (rna_lines run.rna)
-run_body Image run = Drawing run.rna
+run_body (Image profile) run = Drawing profile run.rna
+run_body Dna run = Text (letters run.dna)
 
 -- whether a spent budget is the end that a verb asks for
 abbrev pub spent_is_done : RunVerb → Bool
 spent_is_done Rna = false
-spent_is_done Image = false
+spent_is_done (Image profile) = false
+spent_is_done Dna = true
 
 -- what is made of inputs that always end in Done
 abbrev pub plain_body : Plain → Body
-plain_body (plain.Rna Draw commands) = Drawing commands
+plain_body (plain.Rna (Draw profile) commands) = Drawing profile commands
 
 -- how the end of a run is told
 abbrev pub status_by : Bool → RunEnd → Status
@@ -56,23 +62,25 @@ status_by false end.Budget = OutOfBudget
 status_by true end.Budget = Done
 status_by spent_is_done (end.TooLong attempt) = TooLong attempt
 
--- the side of a picture, and the most bitmaps that it may have
-unfoldable pub picture_side : ℕ
-picture_side = 600
+-- the side of a profile's pictures, and the most bitmaps that they may have
+unfoldable pub picture_side : Profile → ℕ
+picture_side profile.Plain = 600
+picture_side profile.Wide = 1024
 
-unfoldable pub most_layers : ℕ
-most_layers = 10
+unfoldable pub most_layers : Profile → ℕ
+most_layers profile.Plain = 10
+most_layers profile.Wide = 16
 
--- the output with a status is the picture that commands draw: its top bitmap as a PPM file
-pub record IsPictureOf (side most : ℕ) (rna : List (List Base)) (status : Status) (output : Output) : Type 0 where
+-- the output with a status is the picture that commands draw in a profile: its top bitmap as a PPM file
+pub record IsPictureOf (side most : ℕ) (profile : Profile) (rna : List (List Base)) (status : Status) (output : Output) : Type 0 where
   pub picture : Picture
-  pub builds : Builds side most act_of rna (start side) picture
+  pub builds : Builds side most (act_of profile) rna (start side) picture
   pub is : output ≡ record { status = status; bytes = ppm side (top_of picture.layers) }
 
 -- the output with a status is this body
 abbrev pub IsBody : Status → Body → Output → Type 0
 IsBody status (Text bytes) output = output ≡ record { status = status; bytes = bytes }
-IsBody status (Drawing rna) output = IsPictureOf picture_side most_layers rna status output
+IsBody status (Drawing profile rna) output = IsPictureOf (picture_side profile) (most_layers profile) profile rna status output
 
 -- the output that a verb makes of the run of a DNA, whatever ended it
 pub record IsRunOutput (verb : RunVerb) (dna : List Base) (budget limit : ℕ) (output : Output) : Type 0 where
@@ -94,7 +102,7 @@ OutputBy (Some (Ok inputs)) output = IsOutputOf inputs output
 -- the output of a request, if there is one
 abbrev pub OutputOf : Files → Option Request → Output → Type 0
 OutputOf files None output = output ≡ refusal Usage
-OutputOf files (Some asked) output = OutputBy (inputs_of files asked) output
+OutputOf files (Some asked) output = OutputBy (inputs_of files (sorted asked)) output
 
 -- the output of the plain machine for words and files
 abbrev pub IsOutput : Files → List (List ℕ) → Output → Type 0

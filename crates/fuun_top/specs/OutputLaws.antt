@@ -3,7 +3,9 @@ use Rattle.std.specs.Prelude.{◌≡◌, ℕ, Option, Some, None, List}
 use Rattle.std.specs.List.{AllByRecursion}
 use Rattle.fuun_top.specs.Output.{Output, IsOutput}
 use Rattle.fuun_top.specs.Reading.{Files, files_of}
-use Rattle.fuun_top.specs.Words.{Request, request}
+use Rattle.fuun_top.specs.Asked.{sorted}
+use Rattle.fuun_words.specs.declared.request.Request.{Request}
+use Rattle.fuun_words.specs.Requests.{request}
 
 -- the contents of the file of a name are told
 abbrev pub IsTold : Files → List ℕ → Type 0
@@ -12,7 +14,7 @@ IsTold files name = (contents : List ℕ) × (files name ≡ Some contents)
 -- the contents of each file that is asked for are told
 abbrev pub AreTold : Files → Option Request → Type 0
 AreTold files None = Unit {0}
-AreTold files (Some asked) = AllByRecursion (IsTold files) (files_of asked)
+AreTold files (Some asked) = AllByRecursion (IsTold files) (files_of (sorted asked))
 
 -- where the files are told, words have an output
 abbrev pub HasOutput : Type 0

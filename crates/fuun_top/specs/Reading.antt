@@ -1,4 +1,4 @@
--- What a request reads: its files one after another, each to its end and then judged. The first refusal decides.
+-- What is read of what is asked for: its files one after another, each to its end and then judged. The first refusal decides.
 use Rattle.std.specs.Prelude.{ℕ, ◌^◌, if◌then◌else◌, Option, Some, None, Result, Ok, Err, List, [], ◌∷◌, ◌++◌, length, nat_lt}
 use Rattle.std.specs.Option.{option_map}
 use Rattle.fuun_base.specs.declared.letters.Base.{Base}
@@ -11,7 +11,9 @@ use Rattle.fuun_top.specs.declared.status.InFile.{InFile}
 use Rattle.fuun_top.specs.declared.status.InFile.TheVariants as file
 use Rattle.fuun_top.specs.declared.status.Status.{Status}
 use Rattle.fuun_top.specs.declared.status.Status.TheVariants.{BadBase, BadRna, InputTooLong, StartTooLong}
-use Rattle.fuun_top.specs.Words.{RunWords, Request, Run, Rna}
+use Rattle.fuun_top.specs.declared.request.Asked.{Asked}
+use Rattle.fuun_top.specs.declared.request.Asked.TheVariants.{Run, Rna}
+use Rattle.fuun_words.specs.declared.request.RunWords.{RunWords}
 
 -- the contents of files by name, where they are told
 abbrev pub Files : Type 0
@@ -30,8 +32,8 @@ prefix_files (Some name) = name ∷ []
 abbrev pub run_files : RunWords → List (List ℕ)
 run_files words = words.dna ∷ prefix_files words.prefix
 
--- the names of the files that a request reads, in order
-abbrev pub files_of : Request → List (List ℕ)
+-- the names of the files that are read, in order
+abbrev pub files_of : Asked → List (List ℕ)
 files_of (Run verb words) = run_files words
 files_of (Rna verb name) = name ∷ []
 
@@ -86,8 +88,8 @@ start_in files words =
     then_read (prefix_in files words.prefix) (λ prefix.
     Some (started words.limit (prefix ++ dna))))
 
--- the inputs of a request
-abbrev pub inputs_of : Files → Request → Reading Inputs
+-- the inputs of what is asked for
+abbrev pub inputs_of : Files → Asked → Reading Inputs
 inputs_of files (Run verb words) =
     then_read (start_in files words) (λ dna. Some (Ok (inputs.Run verb dna words.budget words.limit)))
 inputs_of files (Rna verb name) =

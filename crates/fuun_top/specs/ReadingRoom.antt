@@ -9,7 +9,9 @@ use Rattle.fuun_top.specs.declared.status.Status.TheVariants.{InputTooLong, Read
 use Rattle.fuun_top.specs.Answer.{told_bytes}
 use Rattle.fuun_top.specs.Reading.{Files, Reading, most_bytes}
 use Rattle.fuun_top.specs.Stages.{stage_of, IsOfInputs}
-use Rattle.fuun_top.specs.Words.{Request, Run, Rna}
+use Rattle.fuun_top.specs.declared.request.Asked.{Asked}
+use Rattle.fuun_top.specs.declared.request.Asked.TheVariants.{Run, Rna}
+use Rattle.fuun_words.specs.Requests.{IsRunInRange}
 
 -- contents were judged so, or memory was wanted
 pub record Judges {A : Type 0} (judged result : Result A Status) : Type 0 where
@@ -28,12 +30,12 @@ pub record Reads {A : Type 0} (files : Files) (names : List (List ℕ)) (known :
   pub fault : result ≡ Err ReadFault → Rose faults_old faults_new
   pub no_fault : result ≢ Err ReadFault → faults_new ≡ faults_old
 
--- the budget and the limit of a request are ones that a machine takes
-abbrev pub IsInRange : Request → Type 0
-IsInRange (Run verb words) = (words.budget ≤ 2 ^ 40) × (1 ≤ words.limit) × (words.limit ≤ 2 ^ 40)
+-- the budget and the limit of a run are ones that a machine takes
+abbrev pub IsInRange : Asked → Type 0
+IsInRange (Run verb words) = IsRunInRange words
 IsInRange (Rna verb name) = Unit {0}
 
--- so are those of inputs, and the DNA is within the limit
+-- so are those of what was read, and the DNA is within the limit
 abbrev pub AreInRange : Inputs → Type 0
 AreInRange (inputs.Run verb dna budget limit) = (budget ≤ 2 ^ 40) × (1 ≤ limit) × (limit ≤ 2 ^ 40) × (length dna ≤ limit)
 AreInRange (inputs.Plain plain) = Unit {0}

@@ -2,14 +2,13 @@
 ghost use Rattle.std.specs.Prelude.{◌≡◌, ◌∷◌, [], IsTrue};
 ghost use Rattle.std.specs.Result.{result_map_both};
 ghost use Rattle.fuun_top.specs.Answer.{AreAllowed};
-ghost use Rattle.fuun_top.specs.Asked.{words_of};
 ghost use Rattle.fuun_top.specs.Reading.{bytes_in, dna_in, judged_dna, judged_rna, prefix_files, prefix_in, rna_in};
 ghost use Rattle.fuun_top.specs.ReadingRoom.{Judges, Reads};
 
-use crate::request::RunWords;
 use crate::{InFile, Status};
 use fuun_base::{BaseList, CommandList, DnaError, RnaError, read_dna, read_rna};
 use fuun_io::{Folder, ReadError, read_all};
+use fuun_words::Name;
 use std::alloc::Global;
 
 /// The most bytes that a file may have.
@@ -82,17 +81,17 @@ pub(crate) fn dna_file<F: Folder>(
 pub(crate) fn prefix_file<F: Folder>(
     alloc: Global,
     folder: &mut F,
-    words: &RunWords<'_>,
+    prefix: &Option<Name>,
 ) -> Result<BaseList, Status>
-    requires { AreAllowed (F.allows folder.old) (prefix_files (words_of words.now).prefix) }
-    ensures reads { Reads (F.contents folder.old) (prefix_files (words_of words.now).prefix)
-        (prefix_in (F.contents folder.old) (words_of words.now).prefix)
+    requires { AreAllowed (F.allows folder.old) (prefix_files prefix.now) }
+    ensures reads { Reads (F.contents folder.old) (prefix_files prefix.now)
+        (prefix_in (F.contents folder.old) prefix.now)
         result (F.given folder.old) (F.given folder.new) (F.faults folder.old) (F.faults folder.new) }
     ensures same_contents { F.contents folder.new ≡ F.contents folder.old }
     ensures same_names { F.allows folder.new ≡ F.allows folder.old }
 {
-    match words.prefix {
-        Some(name) => dna_file(alloc, folder, name, InFile::Prefix),
+    match prefix {
+        Some(name) => dna_file(alloc, folder, name.as_str(), InFile::Prefix),
         None => Ok(BaseList::new(alloc)),
     }
 }

@@ -1,16 +1,16 @@
 // The reading room: from a request to its inputs.
 ghost use Rattle.std.specs.Prelude.{◌≡◌, ◌≤◌, ◌++◌, length, IfOk};
 ghost use Rattle.fuun_top.specs.Answer.{AreAllowed};
-ghost use Rattle.fuun_top.specs.Asked.{asked, words_of};
+ghost use Rattle.fuun_top.specs.declared.request.Asked.TheVariants.{Run, Rna};
 ghost use Rattle.fuun_top.specs.Reading.{files_of, inputs_of, run_files, start_in, started};
 ghost use Rattle.fuun_top.specs.ReadingRoom.{AreInRange, IsInRange, Judges, Reads};
-ghost use Rattle.fuun_top.specs.Words.{Run, Rna};
 
 use crate::files::{dna_file, prefix_file, rna_file};
-use crate::request::{Request, RnaVerb, RunVerb, RunWords};
+use crate::request::{Asked, RnaVerb, RunVerb};
 use crate::{InFile, Status};
 use fuun_base::{BaseList, CommandList, NoMemory};
 use fuun_io::Folder;
+use fuun_words::RunWords;
 use std::alloc::Global;
 
 /// What a request works on.
@@ -32,22 +32,22 @@ pub(crate) enum Plain {
     Rna(RnaVerb, CommandList),
 }
 
-/// Reads the files that a request names, and judges each before the next is touched.
+/// Reads the files that are asked for, and judges each before the next is touched.
 pub(crate) fn read_inputs<F: Folder>(
     alloc: Global,
     folder: &mut F,
-    request: &Request<'_>,
+    asked: &Asked,
 ) -> Result<Inputs, Status>
-    requires allowed { AreAllowed (F.allows folder.old) (files_of (asked request.now)) }
-    requires in_range { IsInRange (asked request.now) }
-    ensures reads { Reads (F.contents folder.old) (files_of (asked request.now))
-        (inputs_of (F.contents folder.old) (asked request.now))
+    requires allowed { AreAllowed (F.allows folder.old) (files_of asked.now) }
+    requires in_range { IsInRange asked.now }
+    ensures reads { Reads (F.contents folder.old) (files_of asked.now)
+        (inputs_of (F.contents folder.old) asked.now)
         result (F.given folder.old) (F.given folder.new) (F.faults folder.old) (F.faults folder.new) }
     ensures in_range { IfOk result AreInRange }
 {
-    match request {
-        Request::Run(verb, words) => read_run(alloc, folder, *verb, words),
-        Request::Rna(verb, name) => read_commands(alloc, folder, *verb, name),
+    match asked {
+        Asked::Run(verb, words) => read_run(alloc, folder, *verb, words),
+        Asked::Rna(verb, name) => read_commands(alloc, folder, *verb, name.as_str()),
     }
 }
 
@@ -56,12 +56,12 @@ fn read_run<F: Folder>(
     alloc: Global,
     folder: &mut F,
     verb: RunVerb,
-    words: &RunWords<'_>,
+    words: &RunWords,
 ) -> Result<Inputs, Status>
-    requires allowed { AreAllowed (F.allows folder.old) (files_of (Run verb (words_of words.now))) }
-    requires in_range { IsInRange (Run verb (words_of words.now)) }
-    ensures reads { Reads (F.contents folder.old) (files_of (Run verb (words_of words.now)))
-        (inputs_of (F.contents folder.old) (Run verb (words_of words.now)))
+    requires allowed { AreAllowed (F.allows folder.old) (files_of (Run verb words.now)) }
+    requires in_range { IsInRange (Run verb words.now) }
+    ensures reads { Reads (F.contents folder.old) (files_of (Run verb words.now))
+        (inputs_of (F.contents folder.old) (Run verb words.now))
         result (F.given folder.old) (F.given folder.new) (F.faults folder.old) (F.faults folder.new) }
     ensures in_range { IfOk result AreInRange }
 {
@@ -80,19 +80,19 @@ fn read_run<F: Folder>(
 fn read_start<F: Folder>(
     alloc: Global,
     folder: &mut F,
-    words: &RunWords<'_>,
+    words: &RunWords,
 ) -> Result<BaseList, Status>
-    requires { AreAllowed (F.allows folder.old) (run_files (words_of words.now)) }
-    ensures reads { Reads (F.contents folder.old) (run_files (words_of words.now))
-        (start_in (F.contents folder.old) (words_of words.now))
+    requires { AreAllowed (F.allows folder.old) (run_files words.now) }
+    ensures reads { Reads (F.contents folder.old) (run_files words.now)
+        (start_in (F.contents folder.old) words.now)
         result (F.given folder.old) (F.given folder.new) (F.faults folder.old) (F.faults folder.new) }
     ensures within { IfOk result (λ dna. length dna ≤ words.now.limit) }
 {
-    let dna = match dna_file(alloc, folder, words.dna, InFile::Dna) {
+    let dna = match dna_file(alloc, folder, words.dna.as_str(), InFile::Dna) {
         Ok(dna) => dna,
         Err(status) => return Err(status),
     };
-    match prefix_file(alloc, folder, words) {
+    match prefix_file(alloc, folder, &words.prefix) {
         Ok(prefix) => start(alloc, prefix, dna, words.limit),
         Err(status) => Err(status),
     }

@@ -5,8 +5,10 @@ mod body;
 mod files;
 mod inputs;
 pub mod laws;
+mod letters;
 mod output;
 mod request;
+mod running;
 mod status;
 #[cfg(test)]
 mod tests;

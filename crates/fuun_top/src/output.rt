@@ -3,38 +3,43 @@ ghost use Rattle.std.specs.Prelude.{◌≡◌, ◌^◌, ◌≤◌, length, IfOk}
 ghost use Rattle.rna_code.specs.Commands.{act_of};
 ghost use Rattle.painter.specs.Picture.{Builds, start};
 ghost use Rattle.fuun_top.specs.declared.inputs.Inputs.TheVariants as inputs;
-ghost use Rattle.fuun_top.specs.Output.{IsBody, IsOutputOf, IsPictureOf, IsRunOutput, spent_is_done, status_by};
+ghost use Rattle.fuun_top.specs.Output.{Drawing, IsBody, IsOutputOf, IsPictureOf, IsRunOutput, spent_is_done, status_by};
 ghost use Rattle.fuun_top.specs.ReadingRoom.{AreInRange};
-ghost use Rattle.fuun_top.specs.WritingRoom.{RanTo, Wrote, body_of, status_after};
+ghost use Rattle.fuun_top.specs.WritingRoom.{Wrote, body_of, status_after};
 
 use crate::Status;
 use crate::body::{Body, plain_body, put_text, run_body};
 use crate::inputs::Inputs;
 use crate::request::RunVerb;
-use exec_loop::{Machine, RunEnd, StepError};
+use crate::running::run_on;
+use exec_loop::RunEnd;
 use fuun_base::{BaseList, CommandList, NoMemory, Steps};
 use fuun_io::{Sink, WriteFault};
 use painter::Painter;
 use ppm_out::write_ppm;
+use rna_code::Profile;
 use std::alloc::Global;
 use std::sync::ledger::Ledger;
-use strand::{FlatStrand, Strand};
 
-/// Pixels on each side of a picture.
-const SIDE: usize = 600;
+/// Pixels on each side of a picture, and the most bitmaps that it may have.
+const PLAIN_SIDE: usize = 600;
 
-/// The most bitmaps that a picture may have.
-const MOST_LAYERS: usize = 10;
+const PLAIN_LAYERS: usize = 10;
+
+/// The same in the wide profile.
+const WIDE_SIDE: usize = 1024;
+
+const WIDE_LAYERS: usize = 16;
 
 /// Writes the output of inputs, and answers its status.
 pub(crate) fn put_output<S: Sink, L: Ledger>(
     alloc: Global,
-    inputs: &Inputs,
+    inputs: Inputs,
     out: &mut S,
     steps: &mut Steps<L>,
 ) -> Status
-    requires { AreInRange inputs.now }
-    ensures { Wrote (IsOutputOf inputs.now) result
+    requires { AreInRange inputs }
+    ensures { Wrote (IsOutputOf inputs) result
         (S.bytes out.old) (S.bytes out.new) (S.faults out.old) (S.faults out.new) }
 {
     match inputs {
@@ -43,8 +48,8 @@ pub(crate) fn put_output<S: Sink, L: Ledger>(
             dna,
             budget,
             limit,
-        } => put_run(alloc, *verb, dna, *budget, *limit, out, steps),
-        Inputs::Plain(plain) => put_body(alloc, Status::Done, &plain_body(plain), out),
+        } => put_run(alloc, verb, dna, budget, limit, out, steps),
+        Inputs::Plain(plain) => put_body(alloc, Status::Done, &plain_body(&plain), out),
     }
 }
 
@@ -52,43 +57,19 @@ pub(crate) fn put_output<S: Sink, L: Ledger>(
 fn put_run<S: Sink, L: Ledger>(
     alloc: Global,
     verb: RunVerb,
-    dna: &BaseList,
+    dna: BaseList,
     budget: u64,
     limit: u64,
     out: &mut S,
     steps: &mut Steps<L>,
 ) -> Status
-    requires { AreInRange (inputs.Run verb dna.now budget limit) }
-    ensures { Wrote (IsRunOutput verb dna.now budget limit) result
+    requires { AreInRange (inputs.Run verb dna budget limit) }
+    ensures { Wrote (IsRunOutput verb dna budget limit) result
         (S.bytes out.old) (S.bytes out.new) (S.faults out.old) (S.faults out.new) }
 {
     match run_on(alloc, dna, budget, limit, steps) {
-        Ok((end, rna)) => put_body(alloc, run_status(verb, end), &run_body(verb, &rna), out),
+        Ok(ran) => put_body(alloc, run_status(verb, ran.end), &run_body(verb, &ran), out),
         Err(NoMemory) => Status::NoMemory,
-    }
-}
-
-/// Runs a DNA under a budget of attempts and a limit on its length, and keeps its RNA.
-fn run_on<L: Ledger>(
-    alloc: Global,
-    dna: &BaseList,
-    budget: u64,
-    limit: u64,
-    steps: &mut Steps<L>,
-) -> Result<(RunEnd, CommandList), NoMemory>
-    requires budget { budget ≤ 2 ^ 40 }
-    requires some { 1 ≤ limit }
-    requires most { limit ≤ 2 ^ 40 }
-    requires within { length dna.now ≤ limit }
-    ensures { IfOk result (λ ran. RanTo dna.now budget limit ran.0 ran.1) }
-{
-    let strand = FlatStrand::build(alloc, dna.as_slice(), steps)?;
-    let mut machine = Machine::new(alloc, strand, limit);
-    let mut rna = CommandList::new(alloc);
-    match machine.run(budget, &mut rna, steps) {
-        Ok(end) => Ok((end, rna)),
-        Err(StepError::NoMemory) => Err(NoMemory),
-        Err(StepError::TakerFailed) => unreachable!(),
     }
 }
 
@@ -97,8 +78,8 @@ fn run_status(verb: RunVerb, end: RunEnd) -> Status
     ensures { result ≡ status_by (spent_is_done verb) end }
 {
     match (verb, end) {
-        (_, RunEnd::Finished { .. }) => Status::Done,
-        (RunVerb::Rna | RunVerb::Image, RunEnd::Budget) => Status::OutOfBudget,
+        (_, RunEnd::Finished { .. }) | (RunVerb::Dna, RunEnd::Budget) => Status::Done,
+        (RunVerb::Rna | RunVerb::Image(_), RunEnd::Budget) => Status::OutOfBudget,
         (_, RunEnd::TooLong { attempt }) => Status::TooLong { attempt },
     }
 }
@@ -110,25 +91,45 @@ fn put_body<S: Sink>(alloc: Global, status: Status, body: &Body<'_>, out: &mut S
 {
     match body {
         Body::Text(text) => status_after(put_text(text, out), status),
-        Body::Drawing(commands) => {
-            put_picture::<SIDE, MOST_LAYERS, S>(alloc, status, commands, out)
+        Body::Drawing(profile, commands) => put_drawing(alloc, status, *profile, commands, out),
+    }
+}
+
+/// Writes the picture that commands draw in a profile, and answers the status that comes with it.
+fn put_drawing<S: Sink>(
+    alloc: Global,
+    status: Status,
+    profile: Profile,
+    commands: &CommandList,
+    out: &mut S,
+) -> Status
+    ensures { Wrote (IsBody status (Drawing profile commands.now)) result
+        (S.bytes out.old) (S.bytes out.new) (S.faults out.old) (S.faults out.new) }
+{
+    match profile {
+        Profile::Plain => {
+            put_picture::<PLAIN_SIDE, PLAIN_LAYERS, S>(alloc, status, profile, commands, out)
+        }
+        Profile::Wide => {
+            put_picture::<WIDE_SIDE, WIDE_LAYERS, S>(alloc, status, profile, commands, out)
         }
     }
 }
 
-/// Writes the picture that commands draw, and answers the status that comes with it.
+/// Writes the picture that commands draw on bitmaps of `SIDE` times `SIDE` pixels, at most `MAX` of them.
 fn put_picture<const SIDE: usize, const MAX: usize, S: Sink>(
     alloc: Global,
     status: Status,
+    profile: Profile,
     commands: &CommandList,
     out: &mut S,
 ) -> Status
     requires side { (1 ≤ SIDE) × (SIDE ≤ 1024) }
     requires most { (1 ≤ MAX) × (MAX ≤ 16) }
-    ensures { Wrote (IsPictureOf SIDE MAX commands.now status) result
+    ensures { Wrote (IsPictureOf SIDE MAX profile commands.now status) result
         (S.bytes out.old) (S.bytes out.new) (S.faults out.old) (S.faults out.new) }
 {
-    match painted::<SIDE, MAX>(alloc, commands) {
+    match painted::<SIDE, MAX>(alloc, profile, commands) {
         Ok(painter) => status_after(write_ppm(painter.top(), out), status),
         Err(NoMemory) => Status::NoMemory,
     }
@@ -137,13 +138,14 @@ fn put_picture<const SIDE: usize, const MAX: usize, S: Sink>(
 /// Draws the commands.
 fn painted<const SIDE: usize, const MAX: usize>(
     alloc: Global,
+    profile: Profile,
     commands: &CommandList,
 ) -> Result<Painter<SIDE, MAX>, NoMemory>
     requires side { (1 ≤ SIDE) × (SIDE ≤ 1024) }
     requires most { (1 ≤ MAX) × (MAX ≤ 16) }
-    ensures { IfOk result (λ painter. Builds SIDE MAX act_of commands.now (start SIDE) painter.picture) }
+    ensures { IfOk result (λ painter. Builds SIDE MAX (act_of profile) commands.now (start SIDE) painter.picture) }
 {
-    let mut painter = Painter::<SIDE, MAX>::new(alloc)?;
+    let mut painter = Painter::<SIDE, MAX>::new(alloc, profile)?;
     for command in commands.as_slice() {
         painter.paint(command);
     }

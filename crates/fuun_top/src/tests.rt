@@ -9,20 +9,23 @@ use std::process::Abort;
 use std::sync::ledger::{Blank, Ledger};
 use std::test::Fail;
 
-fn words(alloc: Global, texts: &[&str]) -> Result<Vec<String>, AllocError> {
+fn words(alloc: Global, line: &str) -> Result<Vec<String>, AllocError> {
     let mut words = Vec::new(alloc);
-    for text in texts {
-        words.push(String::from_str(alloc, text)?)?;
+    for word in line.split(' ') {
+        words.push(String::from_str(alloc, word)?)?;
     }
     Ok(words)
 }
 
-/// Asks for the words over one file of the name `a`, and compares the status and the bytes.
+/// The file `p` before a DNA.
+const PREFIX: &[u8] = b"IIPIPICPIICICIIFICC";
+
+/// Asks for the words over the file `a`, and compares the status and the bytes.
 fn expect<L: Ledger>(
     rt: &impl Abort,
     alloc: Global,
     blank: Blank,
-    texts: &[&str],
+    words: &[String],
     file: &[u8],
     status: Status,
     bytes: &[u8],
@@ -34,43 +37,142 @@ fn expect<L: Ledger>(
     let mut steps = Steps::<L>::new(blank);
     let mut folder = MemFolder::new(alloc);
     folder.add("a", file)?;
+    folder.add("p", PREFIX)?;
     let mut sink = MemSink::with_room(alloc, 4096)?;
-    let words = words(alloc, texts)?;
-    let answer = fuun(alloc, &words, &mut folder, &mut sink, &mut steps);
+    let answer = fuun(alloc, words, &mut folder, &mut sink, &mut steps);
     assert_eq!(rt; answer, status);
     assert_eq!(rt; sink.bytes(), bytes);
     Ok(())
 }
 
+/// The pattern (!2)P and the template PI{0,0}, before CFPC.
+const ROW: &[u8] = b"IIPIPICPIICICIIFICCIFPPIICCFPC";
+
+/// The pattern (!8) and seven times the group, before eight C: 55 bases, and 56 behind the first attempt.
+const GROWING: &[u8] = b"IIPIPIIICPIICIICIFPPIFPPIFPPIFPPIFPPIFPPIFPPIICCCCCCCCC";
+
 #[test]
 fn rna_of_small_files(rt: HostRuntime) -> Result<(), Fail> {
-    let silent = b"IIPIPICPIICICIIFICCIFPPIICCFPC".as_slice();
-    for (budget, file, status, bytes) in [
-        ("1", silent, Status::OutOfBudget, b"".as_slice()),
-        ("2", silent, Status::Done, b"".as_slice()),
+    for (line, file, status, bytes) in [
         (
-            "1",
+            "rna --dna a --budget 1",
+            ROW,
+            Status::OutOfBudget,
+            b"".as_slice(),
+        ),
+        ("rna --dna a --budget 2", ROW, Status::Done, b"".as_slice()),
+        (
+            "rna --dna a --budget 1",
             b"IIIPIPIIIC".as_slice(),
             Status::Done,
             b"PIPIIIC\n".as_slice(),
         ),
         (
-            "0",
+            "rna --dna a --budget 0",
             b"IIIPIPIIIC".as_slice(),
             Status::OutOfBudget,
             b"".as_slice(),
         ),
         (
-            "0002",
+            "rna --budget=0002 --dna a",
             b"IIIPI".as_slice(),
             Status::Done,
             b"PI\n".as_slice(),
         ),
-        ("1", b"III".as_slice(), Status::Done, b"\n".as_slice()),
-        ("9", b"".as_slice(), Status::Done, b"".as_slice()),
+        (
+            "rna --dna a",
+            b"III".as_slice(),
+            Status::Done,
+            b"\n".as_slice(),
+        ),
+        ("rna --dna a", b"".as_slice(), Status::Done, b"".as_slice()),
     ] {
-        let words = ["rna", "--dna", "a", "--budget", budget];
+        let words = words(rt.alloc(), line)?;
         expect::<Brand>(&rt, rt.alloc(), Blank::new(1), &words, file, status, bytes)?;
+    }
+    Ok(())
+}
+
+#[test]
+fn dna_of_small_files(rt: HostRuntime) -> Result<(), Fail> {
+    let one = "dna --dna a --budget 1";
+    for (line, file, bytes) in [
+        (one, ROW, b"PICFC\n".as_slice()),
+        (
+            one,
+            b"I\nI\tP I\nP\tI C\nP\tI I\nC\tI C\nI\tI F\nI\tC C\nI\tF P\nP\tI I\nC\tC F\nP\tC ".as_slice(),
+            b"PICFC\n".as_slice(),
+        ),
+        (
+            one,
+            b"IIPIPICPIICICIIFICCIFCCCPPIICCFPC".as_slice(),
+            b"PIICCFCFFPC\n".as_slice(),
+        ),
+        (
+            one,
+            b"IIPIPIICPIICIICCIICFCFC".as_slice(),
+            b"I\n".as_slice(),
+        ),
+        (
+            one,
+            b"IIPIIPIPCPIICIPCPIICIICIFPPIICFP".as_slice(),
+            b"F\n".as_slice(),
+        ),
+        (
+            "dna --prefix p --dna a --budget 1",
+            b"IFPPIICCFPC".as_slice(),
+            b"PICFC\n".as_slice(),
+        ),
+        (
+            "dna --dna a --budget 2 --limit 56",
+            GROWING,
+            b"CCCCCCCCCCCCCCCCCCCCCCCCCCCCCCCCCCCCCCCCCCCCCCCCCCCCCCCC\n".as_slice(),
+        ),
+    ] {
+        let words = words(rt.alloc(), line)?;
+        expect::<Brand>(
+            &rt,
+            rt.alloc(),
+            Blank::new(1),
+            &words,
+            file,
+            Status::Done,
+            bytes,
+        )?;
+    }
+    Ok(())
+}
+
+#[test]
+fn limits_are_kept(rt: HostRuntime) -> Result<(), Fail> {
+    let whole = b"IIPIPIIICPIICIICIFPPIFPPIFPPIFPPIFPPIFPPIFPPIICCCCCCCCC\n".as_slice();
+    for (line, status, bytes) in [
+        (
+            "dna --dna a --limit 55",
+            Status::TooLong { attempt: 0 },
+            whole,
+        ),
+        (
+            "dna --dna a --limit 54",
+            Status::StartTooLong,
+            b"".as_slice(),
+        ),
+        (
+            "rna --dna a --prefix p --limit 73",
+            Status::StartTooLong,
+            b"".as_slice(),
+        ),
+    ] {
+        let words = words(rt.alloc(), line)?;
+        expect::<Brand>(
+            &rt,
+            rt.alloc(),
+            Blank::new(1),
+            &words,
+            GROWING,
+            status,
+            bytes,
+        )?;
     }
     Ok(())
 }
@@ -81,43 +183,59 @@ fn refusals_write_nothing(rt: HostRuntime) -> Result<(), Fail> {
         file: InFile::Dna,
         place,
     };
-    for (name, file, status) in [
-        ("a", b"IIPIPCXCF".as_slice(), bad(6)),
-        ("a", b"iip".as_slice(), bad(0)),
-        ("b", b"IIP".as_slice(), Status::ReadFault),
+    let bad_rna = |line| Status::BadRna { line };
+    for (line, file, status) in [
+        ("rna --dna a", b"IIPIPC\nXCF".as_slice(), bad(7)),
+        ("rna --dna a", b"iip".as_slice(), bad(0)),
+        ("rna --dna a --prefix unknown", b"iip".as_slice(), bad(0)),
+        (
+            "rna --dna a --prefix unknown",
+            b"IIP".as_slice(),
+            Status::ReadFault,
+        ),
+        ("rna --dna unknown", b"IIP".as_slice(), Status::ReadFault),
+        (
+            "draw --rna a",
+            b"PIPIIIC\nPIPIIICP\n".as_slice(),
+            bad_rna(2),
+        ),
+        ("draw --rna a", b"x".as_slice(), bad_rna(1)),
     ] {
-        let words = ["rna", "--dna", name, "--budget", "1"];
+        let words = words(rt.alloc(), line)?;
         expect::<Brand>(&rt, rt.alloc(), Blank::new(1), &words, file, status, b"")?;
     }
     Ok(())
 }
 
-fn expect_usage<L: Ledger>(
-    rt: &impl Abort,
-    alloc: Global,
-    blank: Blank,
-    texts: &[&str],
-) -> Result<(), Fail>
-    requires name { blank.name ≡ L.name }
-    requires parts { blank.parts ≡ L.parts }
-    requires some { 0 < L.parts }
-{
-    expect::<L>(rt, alloc, blank, texts, b"", Status::Usage, b"")
-}
-
 #[test]
 fn other_words_are_usage(rt: HostRuntime) -> Result<(), Fail> {
-    expect_usage::<Brand>(&rt, rt.alloc(), Blank::new(1), &[])?;
-    expect_usage::<Brand>(&rt, rt.alloc(), Blank::new(1), &["paint"])?;
-    expect_usage::<Brand>(&rt, rt.alloc(), Blank::new(1), &["draw", "--dna", "a"])?;
-    for budget in ["x", "", "+1", "1099511627777"] {
-        let words = ["rna", "--dna", "a", "--budget", budget];
-        expect_usage::<Brand>(&rt, rt.alloc(), Blank::new(1), &words)?;
+    for line in [
+        "",
+        "paint",
+        "rna",
+        "draw --dna a",
+        "rna --dna a --budget x",
+        "rna --dna a --budget +1",
+        "rna --dna a --budget 1099511627777",
+        "rna --dna a --limit 0",
+        "rna --dna a --limit 1099511627777",
+        "rna --dna a --dna a",
+        "rna --dna a b",
+        "rna --dna a --profile wide",
+        "draw --rna a --profile big",
+    ] {
+        let words = words(rt.alloc(), line)?;
+        expect::<Brand>(
+            &rt,
+            rt.alloc(),
+            Blank::new(1),
+            &words,
+            b"",
+            Status::Usage,
+            b"",
+        )?;
     }
-    let other_order = ["rna", "--budget", "1", "--dna", "a"];
-    expect_usage::<Brand>(&rt, rt.alloc(), Blank::new(1), &other_order)?;
-    let one_more = ["rna", "--dna", "a", "--budget", "1", "b"];
-    expect_usage::<Brand>(&rt, rt.alloc(), Blank::new(1), &one_more)
+    Ok(())
 }
 
 #[test]
@@ -168,12 +286,12 @@ fn statuses_have_their_lines(rt: HostRuntime) -> Result<(), Fail> {
     Ok(())
 }
 
-/// Asks for the words over one file of the name `a`, and compares the picture: one pixel, and all others.
+/// Asks for the words over the file `a`, and compares the picture: one pixel, and all others.
 fn expect_picture<L: Ledger>(
     rt: &impl Abort,
     alloc: Global,
     blank: Blank,
-    texts: &[&str],
+    words: &[String],
     file: &[u8],
     picture: &Expected,
 ) -> Result<(), Fail>
@@ -184,9 +302,8 @@ fn expect_picture<L: Ledger>(
     let mut steps = Steps::<L>::new(blank);
     let mut folder = MemFolder::new(alloc);
     folder.add("a", file)?;
-    let mut sink = MemSink::with_room(alloc, 1_080_015)?;
-    let words = words(alloc, texts)?;
-    let answer = fuun(alloc, &words, &mut folder, &mut sink, &mut steps);
+    let mut sink = MemSink::with_room(alloc, 3_145_745)?;
+    let answer = fuun(alloc, words, &mut folder, &mut sink, &mut steps);
     assert_eq!(rt; answer, Status::Done);
     compare(rt, sink.bytes(), picture);
     Ok(())
@@ -195,15 +312,18 @@ fn expect_picture<L: Ledger>(
 /// A picture of one colour but for the pixel at one place.
 #[derive(Clone, Copy)]
 struct Expected {
+    header: &'static [u8],
+    len: usize,
     at: usize,
     pixel: [u8; 3],
     others: [u8; 3],
 }
 
 fn compare(rt: &impl Abort, bytes: &[u8], picture: &Expected) {
-    assert_eq!(rt; bytes.len(), 1_080_015);
-    assert_eq!(rt; &bytes[..15], b"P6\n600 600\n255\n".as_slice());
-    for (place, pixel) in bytes[15..].chunks(3).enumerate() {
+    assert_eq!(rt; bytes.len(), picture.len);
+    let (header, pixels) = bytes.split_at(picture.header.len().min(bytes.len()));
+    assert_eq!(rt; header, picture.header);
+    for (place, pixel) in pixels.chunks(3).enumerate() {
         let want = if place == picture.at {
             picture.pixel
         } else {
@@ -213,22 +333,45 @@ fn compare(rt: &impl Abort, bytes: &[u8], picture: &Expected) {
     }
 }
 
+/// A plain picture of one colour but for the pixel at one place.
+fn plain(at: usize, pixel: [u8; 3], others: [u8; 3]) -> Expected {
+    Expected {
+        header: b"P6\n600 600\n255\n".as_slice(),
+        len: 1_080_015,
+        at,
+        pixel,
+        others,
+    }
+}
+
+/// A wide picture of one colour.
+fn wide(colour: [u8; 3]) -> Expected {
+    Expected {
+        header: b"P6\n1024 1024\n255\n".as_slice(),
+        len: 3_145_745,
+        at: 0,
+        pixel: colour,
+        others: colour,
+    }
+}
+
 const BLANK: [u8; 3] = [0, 0, 0];
 
 const RED: [u8; 3] = [255, 0, 0];
 
 #[test]
 fn images_of_small_files(rt: HostRuntime) -> Result<(), Fail> {
-    let words = ["image", "--dna", "a", "--budget", "1"];
-    for (file, colour) in [
-        (b"".as_slice(), BLANK),
-        (b"IIIPIPIIIPIIIPIIPIIP".as_slice(), RED),
+    let red = b"IIIPIPIIIPIIIPIIPIIP".as_slice();
+    for (line, file, picture) in [
+        (
+            "image --dna a --budget 1",
+            b"".as_slice(),
+            plain(0, BLANK, BLANK),
+        ),
+        ("image --dna a --budget 1", red, plain(0, RED, RED)),
+        ("image --profile wide --dna a", red, wide(RED)),
     ] {
-        let picture = Expected {
-            at: 0,
-            pixel: colour,
-            others: colour,
-        };
+        let words = words(rt.alloc(), line)?;
         expect_picture::<Brand>(&rt, rt.alloc(), Blank::new(1), &words, file, &picture)?;
     }
     Ok(())
@@ -248,7 +391,6 @@ fn rna_lines(alloc: Global, parts: &[(usize, &str)]) -> Result<Vec<u8>, AllocErr
 
 #[test]
 fn drawings_of_small_files(rt: HostRuntime) -> Result<(), Fail> {
-    let words = ["draw", "--rna", "a"];
     for (parts, at, pixel, others) in [
         ([(1, "PIPIIIP"), (1, "PIIPIIP")].as_slice(), 0, RED, RED),
         ([(1, "PFFICCP")].as_slice(), 0, BLANK, BLANK),
@@ -346,25 +488,31 @@ fn drawings_of_small_files(rt: HostRuntime) -> Result<(), Fail> {
         ),
     ] {
         let file = rna_lines(rt.alloc(), parts)?;
-        let picture = Expected { at, pixel, others };
+        let picture = plain(at, pixel, others);
+        let words = words(rt.alloc(), "draw --rna a")?;
         expect_picture::<Brand>(&rt, rt.alloc(), Blank::new(1), &words, &file, &picture)?;
     }
     Ok(())
 }
 
 #[test]
-fn rna_files_are_judged_by_their_lines(rt: HostRuntime) -> Result<(), Fail> {
-    for (file, line) in [(b"PIPIIIC\nPIPIIICP\n".as_slice(), 2), (b"x".as_slice(), 1)] {
-        let status = Status::BadRna { line };
-        expect::<Brand>(
-            &rt,
-            rt.alloc(),
-            Blank::new(1),
-            &["draw", "--rna", "a"],
-            file,
-            status,
-            b"",
-        )?;
+fn a_copied_layer_is_in_the_wide_profile_alone(rt: HostRuntime) -> Result<(), Fail> {
+    let copied = b"PIPIIIP\nPIPIIPF\nPIPIIPP\nPIIPIIP\nPIPIIFP\nPFFPCCP\n".as_slice();
+    for (line, file, picture) in [
+        (
+            "draw --rna a --profile wide",
+            b"PIPIIIP\nPIIPIIP\n".as_slice(),
+            wide(RED),
+        ),
+        ("draw --rna a --profile wide", copied, wide([0xBE, 0, 0])),
+        (
+            "draw --rna a --profile=plain",
+            copied,
+            plain(0, [0x7F, 0, 0], [0x7F, 0, 0]),
+        ),
+    ] {
+        let words = words(rt.alloc(), line)?;
+        expect_picture::<Brand>(&rt, rt.alloc(), Blank::new(1), &words, file, &picture)?;
     }
     Ok(())
 }

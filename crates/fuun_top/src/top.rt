@@ -6,14 +6,15 @@ ghost use Rattle.fuun_top.specs.Answer.{MayAsk, AnswersOrFails, AreGiven};
 ghost use Rattle.fuun_top.specs.Output.{Output, IsOutput};
 ghost use Rattle.fuun_top.specs.Reading.{most_bytes};
 ghost use Rattle.fuun_top.specs.Stages.{IsRefusal};
-ghost use Rattle.fuun_top.specs.Words.{request, texts};
+ghost use Rattle.fuun_words.specs.Requests.{request, texts};
 
 use crate::Status;
 use crate::inputs::read_inputs;
 use crate::output::put_output;
-use crate::request::read_request;
+use crate::request::sorted;
 use fuun_base::Steps;
 use fuun_io::{Folder, Sink};
+use fuun_words::{WordsError, read_request};
 use std::alloc::Global;
 use std::sync::ledger::Ledger;
 
@@ -54,11 +55,13 @@ pub fn fuun<F: Folder, S: Sink, L: Ledger>(
     ensures write_fault { result ≡ Status.WriteFault → Rose (S.faults out.old) (S.faults out.new) }
     ensures write_kept { result ≢ Status.WriteFault → S.faults out.new ≡ S.faults out.old }
 {
-    match read_request(words) {
-        None => Status::Usage,
-        Some(request) => match read_inputs(alloc, folder, &request) {
-            Ok(inputs) => put_output(alloc, &inputs, out, steps),
-            Err(status) => status,
-        },
+    let asked = match read_request(alloc, words) {
+        Ok(request) => sorted(request),
+        Err(WordsError::Usage) => return Status::Usage,
+        Err(WordsError::NoMemory) => return Status::NoMemory,
+    };
+    match read_inputs(alloc, folder, &asked) {
+        Ok(inputs) => put_output(alloc, inputs, out, steps),
+        Err(status) => status,
     }
 }

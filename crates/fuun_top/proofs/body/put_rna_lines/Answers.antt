@@ -1,7 +1,7 @@
 use Rattle.std.proofs.Common.{subst}
 use Rattle.std.proofs.lemmas.Result.{MatchResult-from_err}
 use Rattle.fuun_io.specs.Written.{PutsFront}
-use Rattle.fuun_top.specs.RnaText.{rna_line, rna_lines}
+use Rattle.fuun_top.specs.Texts.{rna_line, rna_lines}
 use Rattle.fuun_top.proofs.LineLemmas.{PutsFront-at_item}
 use Rattle.fuun_top.proofs.body.put_rna_lines.Goals as goal
 

@@ -1,6 +1,6 @@
 use Rattle.std.proofs.Common.{◌≡◌, flat_map, take}
 use Rattle.fuun_io.specs.Written.{appended}
-use Rattle.fuun_top.specs.RnaText.{rna_line}
+use Rattle.fuun_top.specs.Texts.{rna_line}
 use Rattle.fuun_top.proofs.body.put_rna_lines.Given as goal
 
 abbrev pub invariant-loop-command : goal.invariant-loop-command

@@ -1,5 +1,5 @@
 use Rattle.std.proofs.Common.{refl}
-use Rattle.fuun_top.specs.Output.{IsBody, Text, picture_side, most_layers}
+use Rattle.fuun_top.specs.Output.{IsBody, Text}
 use Rattle.fuun_top.specs.WritingRoom.{text_of}
 use Rattle.fuun_top.proofs.WrittenOutput.{output_put}
 use Rattle.fuun_top.proofs.output.put_body.Goals as goal
@@ -11,5 +11,4 @@ returns-in-Text g c =
     c.put_text.result c.status_after.result _ _ _ _ refl c.status_after.ensures c.put_text.ensures.puts c.put_text.ensures.cause)
 
 pub returns-in-Drawing : goal.returns-in-Drawing
-unfolding picture_side most_layers
-returns-in-Drawing g c = rw c.in-Drawing.is c.put_picture.ensures
+returns-in-Drawing g c = rw c.in-Drawing.is c.put_drawing.ensures

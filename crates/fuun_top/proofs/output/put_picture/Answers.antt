@@ -6,7 +6,7 @@ use Rattle.fuun_top.proofs.output.put_picture.Goals as goal
 
 pub returns-in-Ok : goal.returns-in-Ok
 returns-in-Ok g c =
-    output_put (IsPictureOf g.row.SIDE g.row.MAX c.args.commands.now c.args.status)
+    output_put (IsPictureOf g.row.SIDE g.row.MAX c.args.profile c.args.commands.now c.args.status)
     (record { status = c.args.status; bytes = ppm g.row.SIDE c.top.result.now }) c.write_ppm.result c.status_after.result _ _ _ _
     (record { picture = c.in-Ok.painter.picture; builds = c.in-Ok.ensures; is = ap (λ top. record { status = c.args.status; bytes = ppm g.row.SIDE top }) c.top.ensures })
     c.status_after.ensures c.write_ppm.ensures.puts c.write_ppm.ensures.cause

@@ -3,4 +3,4 @@ use Rattle.fuun_top.proofs.output.put_run.Goals as goal
 
 pub returns-in-Ok : goal.returns-in-Ok
 returns-in-Ok g c =
-    run_put c.args.verb c.args.dna.now c.args.budget c.args.limit c.in-Ok.end c.in-Ok.rna _ _ _ _ _ _ _ c.in-Ok.ensures c.run_status.ensures c.run_body.ensures c.put_body.ensures
+    run_put c.args.verb c.args.dna c.args.budget c.args.limit c.in-Ok.ran _ _ _ _ _ _ _ c.in-Ok.ensures c.run_status.ensures c.run_body.ensures c.put_body.ensures
