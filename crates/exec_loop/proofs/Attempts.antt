@@ -12,8 +12,8 @@ use Rattle.matcher.specs.Match.{IsMatch, last_place}
 use Rattle.matcher.specs.Groups.{AreGroups}
 use Rattle.replacer.specs.Replacement.{texts_of, replaced}
 use Rattle.exec_loop.specs.Attempt.{Ending, Matched, NoMatch, TooLong, Finished, Attempt, ReadsBoth, PatternRanOut, TemplateRanOut, ReadingRanOut, FindsNone, Rewrites, EndsBy, IsAttempt}
-use Rattle.exec_loop.proofs.Matches.{match_is_one, match_or_none}
-use Rattle.exec_loop.proofs.Grouping.{groups_exist}
+use Rattle.matcher.proofs.Matches.{match_is_one, match_or_none}
+use Rattle.matcher.proofs.Grouping.{groups_exist}
 use Rattle.matcher.proofs.OpenGroups.{one_list_of_groups}
 
 -- there is an attempt

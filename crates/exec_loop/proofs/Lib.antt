@@ -1,5 +1,3 @@
-pub mod Matches
-pub mod Grouping
 pub mod Attempts
 pub mod Runs
 pub mod Weighing
