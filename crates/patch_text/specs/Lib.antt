@@ -1,0 +1,5 @@
+pub mod Contents
+pub mod Lengths
+pub mod Meaning
+pub mod Keys
+pub mod Room
