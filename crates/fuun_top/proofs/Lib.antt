@@ -5,3 +5,4 @@ pub mod OneOutput
 pub mod WrittenOutput
 pub mod TopLemmas
 pub mod AskLemmas
+pub mod StepLemmas

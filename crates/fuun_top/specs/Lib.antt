@@ -8,3 +8,4 @@ pub mod Asked
 pub mod ReadingRoom
 pub mod WritingRoom
 pub mod OutputLaws
+pub mod Steps

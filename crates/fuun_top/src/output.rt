@@ -5,6 +5,7 @@ ghost use Rattle.painter.specs.Picture.{Builds, start};
 ghost use Rattle.fuun_top.specs.declared.inputs.Inputs.TheVariants as inputs;
 ghost use Rattle.fuun_top.specs.Output.{Drawing, IsBody, IsOutputOf, IsPictureOf, IsRunOutput, spent_is_done, status_by};
 ghost use Rattle.fuun_top.specs.ReadingRoom.{AreInRange};
+ghost use Rattle.fuun_top.specs.Steps.{InputsTick, RunTicks};
 ghost use Rattle.fuun_top.specs.WritingRoom.{Wrote, body_of, status_after};
 
 use crate::Status;
@@ -39,8 +40,9 @@ pub(crate) fn put_output<S: Sink, L: Ledger>(
     steps: &mut Steps<L>,
 ) -> Status
     requires { AreInRange inputs }
-    ensures { Wrote (IsOutputOf inputs) result
+    ensures wrote { Wrote (IsOutputOf inputs) result
         (S.bytes out.old) (S.bytes out.new) (S.faults out.old) (S.faults out.new) }
+    ensures ticks { InputsTick inputs steps.old steps.new }
 {
     match inputs {
         Inputs::Run {
@@ -64,8 +66,9 @@ fn put_run<S: Sink, L: Ledger>(
     steps: &mut Steps<L>,
 ) -> Status
     requires { AreInRange (inputs.Run verb dna budget limit) }
-    ensures { Wrote (IsRunOutput verb dna budget limit) result
+    ensures wrote { Wrote (IsRunOutput verb dna budget limit) result
         (S.bytes out.old) (S.bytes out.new) (S.faults out.old) (S.faults out.new) }
+    ensures ticks { RunTicks dna budget limit steps.old steps.new }
 {
     match run_on(alloc, dna, budget, limit, steps) {
         Ok(ran) => put_body(alloc, run_status(verb, ran.end), &run_body(verb, &ran), out),

@@ -1,5 +1,7 @@
 // One run, and what is kept of it.
 ghost use Rattle.std.specs.Prelude.{◌≡◌, ◌^◌, ◌≤◌, length, IfOk};
+ghost use Rattle.fuun_base.specs.Ticks.{Ticks};
+ghost use Rattle.fuun_top.specs.Steps.{RunTicks, start_steps};
 ghost use Rattle.fuun_top.specs.WritingRoom.{RanTo};
 
 use exec_loop::{Machine, RunEnd, StepError};
@@ -29,7 +31,8 @@ pub(crate) fn run_on<L: Ledger>(
     requires some { 1 ≤ limit }
     requires most { limit ≤ 2 ^ 40 }
     requires within { length dna ≤ limit }
-    ensures { IfOk result (λ ran. RanTo dna budget limit ran) }
+    ensures ran { IfOk result (λ ran. RanTo dna budget limit ran) }
+    ensures ticks { RunTicks dna budget limit steps.old steps.new }
 {
     let mut machine = machine_on(alloc, dna, limit, steps)?;
     let mut rna = CommandList::new(alloc);
@@ -52,6 +55,7 @@ fn machine_on<L: Ledger>(
     requires within { length dna ≤ limit }
     ensures dna { IfOk result (λ machine. machine.dna ≡ dna) }
     ensures limit { IfOk result (λ machine. machine.limit ≡ limit) }
+    ensures ticks { Ticks steps.old steps.new (start_steps (length dna)) }
 {
     let strand = RopeStrand::build(alloc, dna.as_slice(), steps)?;
     Ok(Machine::new(alloc, strand, limit))

@@ -1,7 +1,7 @@
 ghost use Rattle.std.specs.Prelude.{◌≡◌, ◌<◌};
 
 use crate::{InFile, Status, fuun, put_status};
-use fuun_base::Steps;
+use fuun_base::{Steps, asnat_into, read_dna};
 use fuun_io::{MemFolder, MemSink};
 use std::alloc::{AllocError, Global};
 use std::marker::Brand;
@@ -515,4 +515,46 @@ fn a_copied_layer_is_in_the_wide_profile_alone(rt: HostRuntime) -> Result<(), Fa
         expect_picture::<Brand>(&rt, rt.alloc(), Blank::new(1), &words, file, &picture)?;
     }
     Ok(())
+}
+
+/// Parts that each double the bases behind all parts, a cut of what they made, and eight C: 2,310 bases.
+fn doubling_dna(alloc: Global) -> Result<Vec<u8>, Fail> {
+    let mut bases = Vec::new(alloc);
+    let mut doubled = 1 << 36;
+    bases.extend_from_slice(read_dna(alloc, b"IP")?.as_slice())?;
+    asnat_into(doubled, &mut bases)?;
+    bases.extend_from_slice(read_dna(alloc, b"IICIIC")?.as_slice())?;
+    for _ in 0..33 {
+        doubled /= 2;
+        let mut part = Vec::new(alloc);
+        part.extend_from_slice(read_dna(alloc, b"IIPIP")?.as_slice())?;
+        asnat_into(bases.len() as u64, &mut part)?;
+        part.extend_from_slice(read_dna(alloc, b"IICIIPIP")?.as_slice())?;
+        asnat_into(doubled, &mut part)?;
+        part.extend_from_slice(read_dna(alloc, b"IICIICIFPPIFPCPIFPCPIIC")?.as_slice())?;
+        part.extend_from_slice(bases.as_slice())?;
+        bases = part;
+    }
+    let mut file = Vec::new(alloc);
+    for base in bases {
+        file.push(base.letter())?;
+    }
+    file.extend_from_slice(b"CCCCCCCC")?;
+    Ok(file)
+}
+
+#[test]
+fn a_dna_longer_than_any_memory_is_run(rt: HostRuntime) -> Result<(), Fail> {
+    let file = doubling_dna(rt.alloc())?;
+    assert_eq!(rt; file.len(), 2310);
+    let words = words(rt.alloc(), "dna --dna a --limit 1099511627776")?;
+    expect::<Brand>(
+        &rt,
+        rt.alloc(),
+        Blank::new(1),
+        &words,
+        &file,
+        Status::Done,
+        b"\n",
+    )
 }

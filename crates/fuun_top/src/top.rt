@@ -6,6 +6,7 @@ ghost use Rattle.fuun_top.specs.Answer.{MayAsk, AnswersOrFails, AreGiven};
 ghost use Rattle.fuun_top.specs.Output.{Output, IsOutput};
 ghost use Rattle.fuun_top.specs.Reading.{most_bytes};
 ghost use Rattle.fuun_top.specs.Stages.{IsRefusal};
+ghost use Rattle.fuun_top.specs.Steps.{CallTicks};
 ghost use Rattle.fuun_words.specs.Requests.{request, texts};
 
 use crate::Status;
@@ -48,6 +49,9 @@ pub fn fuun<F: Folder, S: Sink, L: Ledger>(
         raised (F.given folder.old) (most_bytes + 1) ≤ F.given folder.new }
     ensures read { result ≡ Status.Done →
         AreGiven (F.contents folder.old) (F.given folder.old) (F.given folder.new) (request (texts words.now)) }
+
+    // Nodes of ropes are made for the start of a run and for its attempts alone, wherever the call ends.
+    ensures steps { CallTicks (F.contents folder.old) (request (texts words.now)) steps.old steps.new }
 
     // A fault is the answer exactly where one was counted.
     ensures read_fault { result ≡ Status.ReadFault → Rose (F.faults folder.old) (F.faults folder.new) }

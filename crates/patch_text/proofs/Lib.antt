@@ -1,4 +1,5 @@
 pub mod Bounds
+pub mod Outsides
 pub mod Texts
 pub mod Tables
 pub mod Documents

@@ -1,6 +1,7 @@
 //! Patch files: rows that edit, copy and move ranges of a DNA, and their text, which is a TOML document.
 #![tactic(auto)]
 
+pub mod laws;
 mod read;
 mod rows;
 mod table;

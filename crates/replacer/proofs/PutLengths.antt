@@ -1,9 +1,10 @@
 -- Lengths of numbers and of quoted ranges.
-use Rattle.std.proofs.Common.{◌≡◌, ℕ, ◌+◌, ◌-◌, ◌/◌, ◌^◌, ◌<◌, ◌≤◌, List, [], ◌∷◌, ◌++◌, length, slice_range, arith, refl, sym, ap, ◌∙◌, append-nil}
+use Rattle.std.proofs.Common.{◌≡◌, ℕ, ◌+◌, ◌-◌, ◌*◌, ◌/◌, ◌^◌, ◌<◌, ◌≤◌, List, [], ◌∷◌, ◌++◌, length, slice_range, arith, refl, sym, ap, ◌∙◌, append-nil, length-append}
 use Rattle.fuun_base.specs.declared.letters.Base.{Base}
-use Rattle.fuun_base.specs.Quote.{protect, asnat}
+use Rattle.fuun_base.specs.Quote.{quote, protect, asnat}
 use Rattle.fuun_base.proofs.AsnatLemmas.{asnat-zero, asnat-digit, length-asnat_le}
-use Rattle.fuun_base.proofs.QuoteLemmas.{protect_of-nil}
+use Rattle.fuun_base.proofs.QuoteLemmas.{length-quote, protect_of-nil, protect_more}
+use Rattle.fuun_base.proofs.Counting.{tally_total-tally_of}
 use Rattle.strand.proofs.Levels.{protect_zero}
 use Rattle.strand.proofs.Ranges.{length-range}
 
@@ -31,3 +32,17 @@ nothing_put front d lo hi level same within =
     nil_of : (e : List Base) → length e ≡ 0 → e ≡ []
     nil_of [] none = refl
     nil_of (b ∷ e) none = absurd (omega arith)
+
+-- a text that is put behind a list, quoted once or not at all
+pub put_plain : (front text : List Base) (level : ℕ) → level ≡ 0 → front ++ text ≡ front ++ protect level text
+put_plain front text level plain = ap (λ e. front ++ e) (sym (ap (λ n. protect n text) plain ∙ protect_zero text))
+
+pub put_quoted : (front text : List Base) (level : ℕ) → level ≤ 1 → 0 < level → front ++ quote text ≡ front ++ protect level text
+put_quoted front text level most some =
+    let once : level ≡ 0 + 1 = omega arith in
+    ap (λ e. front ++ e) (sym (ap (λ n. protect n text) once ∙ protect_more 0 text ∙ ap quote (protect_zero text)))
+
+-- which adds at most twice its length
+pub length_of_put : (front text new : List Base) → new ≡ front ++ quote text → length new ≤ length front + 2 * length text
+length_of_put front text new is =
+    omega (arith, ap length is, length-append front (quote text), length-quote text, tally_total-tally_of text)

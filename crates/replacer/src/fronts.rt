@@ -1,4 +1,4 @@
-ghost use Rattle.std.specs.Prelude.{◌≡◌, ℕ, ◌+◌, ◌*◌, ◌≤◌, ◌^◌, ◌∷◌, [], ◌++◌, length, slice_range, All, IfOk};
+ghost use Rattle.std.specs.Prelude.{◌≡◌, ℕ, ◌+◌, ◌*◌, ◌≤◌, ◌^◌, ◌∷◌, [], ◌++◌, length, slice_range, true, All, IfOk, OnOk};
 ghost use Rattle.fuun_base.specs.Quote.{asnat, protect};
 ghost use Rattle.fuun_base.specs.Ticks.{Ticks};
 ghost use Rattle.matcher.specs.Found.{LiesWithin};
@@ -8,11 +8,14 @@ ghost use Rattle.replacer.specs.Weight.{quoted_at};
 
 use crate::ranges::range_of;
 use dna_items::TplItem;
-use fuun_base::{Base, NoMemory, Steps, asnat_into};
+use fuun_base::{Base, NoMemory, Steps, asnat_into, quote_into};
 use matcher::GroupList;
 use std::alloc::Global;
 use std::sync::ledger::Ledger;
 use strand::Strand;
+
+// A group of at most so many bases waits with the literals, unless it is quoted more than once.
+const SMALL_MOST: usize = 64;
 
 // What stands of the new DNA: a strand, and the bases behind it that wait for the next build.
 #[derive(Drop)]
@@ -123,12 +126,34 @@ impl<S: Strand> Front<S> {
         if lo == hi {
             return Ok(self);
         }
+        if is_small(hi - lo, level) {
+            return self.put_small(s, range, level);
+        }
         let done = self.joined(alloc, steps)?;
         let part = s.quoted(lo, hi, level, steps)?;
         Ok(Front {
             done: S::join(&done, &part, steps)?,
             waiting: Vec::new(alloc),
         })
+    }
+
+    // A group of a few bases waits with the literals.
+    fn put_small(self, s: &S, range: (u64, u64), level: u64) -> Result<Self, NoMemory>
+        requires range { LiesWithin (length (S.bases s.now)) range }
+        requires few { range.1 ≤ range.0 + 64 }
+        requires level { level ≤ 1 }
+        ensures bases { IfOk result (λ front. S.bases front.done ++ front.waiting.items
+            ≡ (S.bases self.done ++ self.waiting.items) ++ protect level (slice_range (S.bases s.now) range.0 range.1)) }
+        ensures done { IfOk result (λ front. front.done ≡ self.done) }
+        ensures waiting { IfOk result (λ front. length front.waiting.items ≤ length self.waiting.items + 128) }
+    {
+        let (lo, hi) = range;
+        let mut text = [Base::I; SMALL_MOST];
+        let text = &mut text[..(hi - lo) as usize];
+        s.copy_out(lo, text);
+        let mut front = self;
+        append_quoted(text, level, &mut front.waiting)?;
+        Ok(front)
     }
 
     // The strand of all that stands.
@@ -151,4 +176,24 @@ impl<S: Strand> Front<S> {
         let waiting = S::build(alloc, self.waiting.as_slice(), steps)?;
         S::join(&self.done, &waiting, steps)
     }
+}
+
+// Whether a group of so many bases, put at such a level, waits with the literals.
+fn is_small(len: u64, level: u64) -> bool
+    ensures { result ≡ true → (len ≤ 64) × (level ≤ 1) }
+{
+    len <= SMALL_MOST as u64 && level <= 1
+}
+
+// Appends a text, quoted once or not at all.
+fn append_quoted(text: &[Base], level: u64, out: &mut Vec<Base>) -> Result<(), NoMemory>
+    requires { level ≤ 1 }
+    ensures added { OnOk result (out.new.items ≡ out.old.items ++ protect level text.now) }
+    ensures most { OnOk result (length out.new.items ≤ length out.old.items + 2 * length text.now) }
+{
+    if level == 0 {
+        out.extend_from_slice(text)?;
+        return Ok(());
+    }
+    quote_into(text, out)
 }

@@ -1,7 +1,7 @@
 -- Heights against numbers of leaves and of bases.
 use Rattle.std.proofs.Common.{◌≡◌, ℕ, zero, suc, ◌+◌, ◌*◌, ◌/◌, ◌^◌, ◌<◌, ◌≤◌, ◌==◌, Bool, true, false, max, refl, arith, inl, inr}
 use Rattle.std.specs.Int.{div_ceil}
-use Rattle.std.proofs.Math.Nat.{mul-le-mul, max-eq_right}
+use Rattle.std.proofs.Math.Nat.{mul-le-mul, le-max_right, max-eq_right}
 use Rattle.std.proofs.Math.Pow.{pow_mono}
 use Rattle.std.proofs.lemmas.Bool.{cases_lt, eqb-true}
 use Rattle.std.proofs.lemmas.Nat.{pow_below, pow-add}
@@ -80,3 +80,38 @@ build_high n m r leaves h k large number half rest high order =
     let is : max h k ≡ k = max-eq_right order in
     let twice : 2 ^ (k + 1) ≡ 2 ^ k * 2 = pow_more 2 k in
     rw is (omega arith)
+
+-- the leaves of the first third and of the rest
+pub light_parts : (n m r leaves third : ℕ) → 512 < n → leaves ≡ div_ceil n 512 → third ≡ div_ceil leaves 3 → m ≡ third * 512 → r + m ≡ n → (1 ≤ leaves_for m) × (1 ≤ leaves_for r) × (leaves_for m + leaves_for r ≡ leaves_for n) × (2 * leaves_for m ≤ leaves_for r + 2) × (leaves_for r ≤ 2 * leaves_for m)
+light_parts n m r leaves third large number is size rest =
+    (omega arith, omega arith, omega arith, omega arith, omega arith)
+
+-- the levels over a third of the leaves and over the rest
+pub light_levels : (p q h k : ℕ) → 1 ≤ p → 1 ≤ q → 2 * p ≤ q + 2 → q ≤ 2 * p → p ≤ 2 ^ h → 3 * 2 ^ h ≤ 8 * p → q ≤ 2 ^ k → 2 ^ k < 2 * q → (h ≤ k + 1) × (k ≤ h + 1)
+light_levels p q h k some some' few many high low high' low' = (
+  elim (cases_lt (k + 1) h) [
+    | inl above ↦
+        let le : k + 1 + 1 ≤ h = omega arith in
+        let power : 2 ^ (k + 1 + 1) ≤ 2 ^ h = pow_mono le in
+        let twice : 2 ^ (k + 1 + 1) ≡ 2 ^ (k + 1) * 2 = pow_more 2 (k + 1) in
+        let twice' : 2 ^ (k + 1) ≡ 2 ^ k * 2 = pow_more 2 k in
+        omega arith
+    | inr le ↦ le
+  ],
+  elim (cases_lt (h + 1) k) [
+    | inl above ↦
+        let le : h + 1 + 1 ≤ k = omega arith in
+        let power : 2 ^ (h + 1 + 1) ≤ 2 ^ k = pow_mono le in
+        let twice : 2 ^ (h + 1 + 1) ≡ 2 ^ (h + 1) * 2 = pow_more 2 (h + 1) in
+        let twice' : 2 ^ (h + 1) ≡ 2 ^ h * 2 = pow_more 2 h in
+        omega arith
+    | inr le ↦ le
+  ],
+)
+
+-- so many leaves fit below the pair of the third and the rest
+pub light_pair : (p q n h k : ℕ) → 1 ≤ q → p + q ≡ n → 2 * p ≤ q + 2 → q ≤ 2 ^ k → n ≤ 2 ^ (max h k + 1)
+light_pair p q n h k some sum few high =
+    let power : 2 ^ k ≤ 2 ^ max h k = pow_mono (le-max_right h k) in
+    let twice : 2 ^ (max h k + 1) ≡ 2 ^ max h k * 2 = pow_more 2 (max h k) in
+    omega arith

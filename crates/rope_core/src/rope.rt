@@ -5,7 +5,7 @@ ghost use Rattle.rope_node.specs.Tree.{IsTree};
 ghost use Rattle.rope_core.specs.Join.{apart};
 ghost use Rattle.rope_core.specs.Rope.{no_tree, IsRope};
 
-use crate::build;
+use crate::build::build_light;
 use crate::cut::{back, front, middle};
 use crate::join::join;
 use fuun_base::{Base, NoMemory, Steps};
@@ -199,6 +199,6 @@ impl Rope {
         if bases.is_empty() {
             return Ok(Rope::empty(alloc));
         }
-        Ok(Rope::of(alloc, build::build(alloc, bases, steps)?))
+        Ok(Rope::of(alloc, build_light(alloc, bases, steps)?))
     }
 }

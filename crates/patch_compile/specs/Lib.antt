@@ -1,0 +1,4 @@
+pub mod Splice
+pub mod Code
+pub mod Law
+pub mod Worked
