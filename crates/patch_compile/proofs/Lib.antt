@@ -5,4 +5,5 @@ pub mod Rows
 pub mod Lengths
 pub mod Carried
 pub mod Judged
+pub mod Answered
 pub mod Worked

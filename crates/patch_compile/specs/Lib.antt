@@ -1,4 +1,5 @@
 pub mod Splice
 pub mod Code
+pub mod Compiled
 pub mod Law
 pub mod Worked

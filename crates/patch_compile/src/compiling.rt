@@ -1,9 +1,10 @@
 //! From rows to the prefix.
-ghost use Rattle.std.specs.Prelude.{◌≡◌, ℕ, ◌+◌, ◌^◌, ◌<◌, ◌≤◌, ◌++◌, true, Err, IfOk, OnOk, length, reverse};
+ghost use Rattle.std.specs.Prelude.{◌≡◌, ℕ, ◌+◌, ◌^◌, ◌<◌, ◌≤◌, ◌++◌, true, Err, IfErr, IfOk, Ok, OnOk, length, reverse};
 ghost use Rattle.std.specs.List.{list_all};
 ghost use Rattle.patch_text.specs.Contents.{has_small_numbers};
 ghost use Rattle.patch_text.specs.Lengths.{AllFit, IsOutside};
 ghost use Rattle.patch_compile.specs.Code.{prefix, row_code};
+ghost use Rattle.patch_compile.specs.Compiled.{compiled};
 ghost use Rattle.patch_compile.specs.Law.{CarriesOut};
 
 use crate::code::put_row;
@@ -26,6 +27,8 @@ pub enum CompileError {
 /// length it makes the machine carry out the rows, one attempt a row, and it is used up then.
 pub fn compile(alloc: Global, file: &PatchFile, limit: u64) -> Result<BaseList, CompileError>
     requires { limit ≤ 2 ^ 40 }
+    ensures taken { IfOk result (λ list. compiled file.now limit ≡ Ok list) }
+    ensures refused { IfErr result (λ e. ¬ (e ≡ CompileError.NoMemory) → compiled file.now limit ≡ Err e) }
     ensures prefix { IfOk result (λ list. list ≡ prefix file.now.rows) }
     ensures within { IfOk result (λ list. length list ≤ limit) }
     ensures fit { OnOk result (AllFit file.now.stated file.now.rows) }
