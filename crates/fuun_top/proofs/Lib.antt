@@ -1,4 +1,3 @@
-pub mod LineLemmas
 pub mod LetterLemmas
 pub mod DrawingLemmas
 pub mod OneOutput

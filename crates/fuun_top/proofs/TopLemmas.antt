@@ -1,5 +1,5 @@
 -- The two rooms together: what was read and what was written, against the output of the words.
-use Rattle.std.proofs.Common.{◌≡◌, ◌⊎◌, inl, inr, ℕ, Bool, true, false, Option, Some, None, Result, Ok, Err, List, IfSome, refl, sym, ap, ◌∙◌, subst}
+use Rattle.std.proofs.Common.{◌≡◌, ◌⊎◌, inl, inr, ℕ, Bool, true, false, Option, Some, None, Result, Ok, Err, List, [], IfSome, refl, sym, ap, ◌∙◌, subst}
 use Rattle.fuun_io.specs.Written.{appended, PutsFront}
 use Rattle.fuun_io.proofs.WrittenLemmas.{appended-nil, PutsFront-all, PutsFront-none}
 use Rattle.exec_loop.specs.declared.machine.RunEnd.{RunEnd}
@@ -8,14 +8,14 @@ use Rattle.fuun_top.specs.declared.inputs.Inputs.{Inputs}
 use Rattle.fuun_top.specs.declared.inputs.Inputs.TheVariants as inputs
 use Rattle.fuun_top.specs.declared.status.Status.{Status}
 use Rattle.fuun_top.specs.declared.status.Status.TheVariants.{Done, ReadFault, NoMemory}
-use Rattle.fuun_top.specs.Answer.{AnswersOrFails}
+use Rattle.fuun_top.specs.Answer.{AnswersOrFails, Grows}
 use Rattle.fuun_top.specs.Output.{Output, Body, Text, Drawing, IsBody, IsOutputOf, OutputBy, OutputOf, plain_body, run_body, spent_is_done, status_by}
 use Rattle.fuun_top.specs.Asked.{sorted}
 use Rattle.fuun_top.specs.declared.request.Asked.{Asked}
 use Rattle.fuun_top.specs.Reading.{Files, Reading, inputs_of}
 use Rattle.fuun_words.specs.declared.request.Request.{Request}
 use Rattle.fuun_top.specs.Stages.{ByOutput, stage_of, IsOfInputs}
-use Rattle.fuun_top.specs.WritingRoom.{Wrote, Whole, CutOff, NoRoom}
+use Rattle.fuun_top.specs.WritingRoom.{Wrote, Whole, CutOff, SpentRoom, NoRoom}
 use Rattle.fuun_top.proofs.OneOutput.{output_one}
 
 -- the output of words is that of what they ask for
@@ -80,12 +80,14 @@ pub wrote_answer : (inputs : Inputs) (result : Status) (old new : Option (List �
     → Wrote (IsOutputOf inputs) result old new before after → IsOutputOf inputs output → AnswersOrFails output.status result
 wrote_answer inputs result old new before after output (Whole written is status put kept) other = inl (status ∙ ap (λ (o : Output). o.status) (output_one inputs written output is other))
 wrote_answer inputs result old new before after output (CutOff written is fault front rose) other = inr (inr (inr fault))
+wrote_answer inputs result old new before after output (SpentRoom written is memory front kept) other = inr (inl memory)
 wrote_answer inputs result old new before after output (NoRoom memory same kept) other = inr (inl memory)
 
 pub wrote_whole : (inputs : Inputs) (result : Status) (old new : Option (List ℕ)) (before after : ℕ) (output : Output)
     → Wrote (IsOutputOf inputs) result old new before after → IsOutputOf inputs output → result ≡ output.status → new ≡ appended old output.bytes
 wrote_whole inputs result old new before after output (Whole written is status put kept) other same = put ∙ ap (λ (o : Output). appended old o.bytes) (output_one inputs written output is other)
 wrote_whole inputs result old new before after output (CutOff written is fault front rose) other same = absurd (cc (fault, same, output_stage inputs output other))
+wrote_whole inputs result old new before after output (SpentRoom written is memory front kept) other same = absurd (cc (memory, same, output_stage inputs output other))
 wrote_whole inputs result old new before after output (NoRoom memory unwritten kept) other same = absurd (cc (memory, same, output_stage inputs output other))
 
 pub wrote_part : (inputs : Inputs) (result : Status) (old new : Option (List ℕ)) (before after : ℕ) (output : Output)
@@ -94,5 +96,17 @@ wrote_part inputs result old new before after output (Whole written is status pu
     PutsFront-all old new output.bytes (put ∙ ap (λ (o : Output). appended old o.bytes) (output_one inputs written output is other))
 wrote_part inputs result old new before after output (CutOff written is fault front rose) other =
     subst (λ (o : Output). PutsFront old new o.bytes) (output_one inputs written output is other) front
+wrote_part inputs result old new before after output (SpentRoom written is memory front kept) other =
+    subst (λ (o : Output). PutsFront old new o.bytes) (output_one inputs written output is other) front
 wrote_part inputs result old new before after output (NoRoom memory same kept) other =
     subst (λ told. PutsFront old told output.bytes) (sym same) (PutsFront-none old output.bytes)
+
+-- bytes only grow
+pub none_grows : (told : Option (List ℕ)) → Grows told told
+none_grows told = ([], sym (appended-nil told))
+
+pub wrote_grows : (Is : Output → Type 0) (result : Status) (old new : Option (List ℕ)) (before after : ℕ) → Wrote Is result old new before after → Grows old new
+wrote_grows Is result old new before after (Whole written is status put kept) = (written.bytes, put)
+wrote_grows Is result old new before after (CutOff written is fault front rose) = (front.front, front.put)
+wrote_grows Is result old new before after (SpentRoom written is memory front kept) = (front.front, front.put)
+wrote_grows Is result old new before after (NoRoom memory same kept) = ([], same ∙ sym (appended-nil old))

@@ -1,14 +1,26 @@
 -- What the writing room's functions wrote.
-use Rattle.std.proofs.Common.{◌≡◌, ℕ, Option, Result, Ok, Err, List, sym, ap, ◌∙◌, subst}
+use Rattle.std.proofs.Common.{◌≡◌, ℕ, true, false, Option, Result, Ok, Err, List, refl, sym, ap, ◌∙◌, subst}
 use Rattle.fuun_base.specs.declared.letters.Base.{Base}
-use Rattle.fuun_io.specs.Counts.{HasCause}
-use Rattle.fuun_io.specs.Written.{Puts}
-use Rattle.exec_loop.specs.Run.{Run}
+use Rattle.fuun_io.specs.Counts.{HasCause, Rose}
+use Rattle.fuun_io.specs.Written.{appended, Puts, PutsFront}
+use Rattle.canvas.specs.Pixels.{Rgba}
+use Rattle.dna_reader.specs.RnaLines.{rna_lines}
+use Rattle.exec_loop.specs.declared.machine.RunEnd.{RunEnd}
+use Rattle.exec_loop.specs.Run.{Run, IsRun}
+use Rattle.exec_loop.specs.State.{State}
+use Rattle.layers.specs.Layers.{top_of}
+use Rattle.painter.specs.Picture.{Picture}
+use Rattle.ppm_out.specs.Ppm.{ppm}
+use Rattle.rna_code.specs.declared.profile.Profile.{Profile}
+use Rattle.rna_code.specs.declared.profile.Profile.TheVariants as profile
+use Rattle.fuun_top.specs.declared.inputs.Plain.{Plain}
 use Rattle.fuun_top.specs.declared.request.RunVerb.{RunVerb}
-use Rattle.fuun_top.specs.declared.running.Ran.{Ran}
+use Rattle.fuun_top.specs.declared.request.RunVerb.TheVariants as verbs
 use Rattle.fuun_top.specs.declared.status.Status.{Status}
-use Rattle.fuun_top.specs.Output.{Output, Body, IsBody, IsRunOutput, run_body, spent_is_done, status_by}
-use Rattle.fuun_top.specs.WritingRoom.{Wrote, Whole, CutOff, NoRoom, RanTo, status_after}
+use Rattle.fuun_top.specs.declared.status.Status.TheVariants.{Done, WriteFault, NoMemory}
+use Rattle.fuun_top.specs.Output.{Output, Drawing, IsBody, IsRunOutput, plain_body, status_by, picture_side, most_layers}
+use Rattle.fuun_top.specs.Texts.{letters}
+use Rattle.fuun_top.specs.WritingRoom.{Wrote, Whole, CutOff, SpentRoom, NoRoom, DrewRun, IsImageOf, status_after}
 
 -- an output was put, whole or in part
 pub output_put : {T E : Type 0} (Is : Output → Type 0) (output : Output) (written : Result T E) (result : Status) (old new : Option (List ℕ)) (before after : ℕ)
@@ -21,19 +33,77 @@ wrote_as : (Is Other : Output → Type 0) (result : Status) (old new : Option (L
     → Wrote Is result old new before after → Wrote Other result old new before after
 wrote_as Is Other result old new before after also (Whole output is status put kept) = Whole output (also output is) status put kept
 wrote_as Is Other result old new before after also (CutOff output is fault front rose) = CutOff output (also output is) fault front rose
+wrote_as Is Other result old new before after also (SpentRoom output is memory front kept) = SpentRoom output (also output is) memory front kept
 wrote_as Is Other result old new before after also (NoRoom memory same kept) = NoRoom memory same kept
 
--- the body of a run that was made
-pub run_put : (verb : RunVerb) (dna : List Base) (budget limit : ℕ) (ran : Ran) (status : Status) (body : Body) (result : Status)
-    (old new : Option (List ℕ)) (before after : ℕ) → RanTo dna budget limit ran → status ≡ status_by (spent_is_done verb) ran.end
-    → ((run : Run) → run.rna ≡ ran.rna → run.dna ≡ ran.machine.dna → body ≡ run_body verb run) → Wrote (IsBody status body) result old new before after
-    → Wrote (IsRunOutput verb dna budget limit) result old new before after
-run_put verb dna budget limit ran status body result old new before after made told is =
-    wrote_as (IsBody status body) (IsRunOutput verb dna budget limit) result old new before after
-    (λ output written. record {
-      run = made.run;
-      is = made.is;
-      writes =
-          subst (λ s. IsBody s (run_body verb made.run) output) (told ∙ ap (status_by (spent_is_done verb)) (sym made.ends))
-          (subst (λ b. IsBody status b output) (is made.run made.gives made.stands) written);
-    })
+-- what was written to a sink that was lent, once it is given back
+pub wrote_lent : {K : Type 0} (bytes : K → Option (List ℕ)) (faults : K → ℕ) (Is : Output → Type 0) (result : Status) (lent first last back : K) → first ≡ lent → back ≡ last
+    → Wrote Is result (bytes first) (bytes last) (faults first) (faults last) → Wrote Is result (bytes lent) (bytes back) (faults lent) (faults back)
+wrote_lent bytes faults Is result lent first last back same given wrote =
+    subst (λ b. Wrote Is result (bytes lent) (bytes b) (faults lent) (faults b)) (sym given)
+    (subst (λ f. Wrote Is result (bytes f) (bytes last) (faults f) (faults last)) same wrote)
+
+-- what a machine on a DNA wrote
+pub run_wrote : (verb : RunVerb) (machine : State) (dna : List Base) (budget limit : ℕ) (result : Status) (old new : Option (List ℕ)) (before after : ℕ) → machine.dna ≡ dna → machine.limit ≡ limit
+    → Wrote (IsRunOutput verb machine.dna budget machine.limit) result old new before after → Wrote (IsRunOutput verb dna budget limit) result old new before after
+run_wrote verb machine dna budget limit result old new before after same same_limit wrote =
+    subst (λ l. Wrote (IsRunOutput verb dna budget l) result old new before after) same_limit
+    (subst (λ d. Wrote (IsRunOutput verb d budget machine.limit) result old new before after) same wrote)
+
+-- the lines of a run's RNA
+abbrev rna_output : Run → Output
+rna_output run = record { status = status_by false run.end; bytes = rna_lines run.rna }
+
+is_rna : (dna : List Base) (budget limit : ℕ) (run : Run) → IsRun dna budget limit run → IsRunOutput verbs.Rna dna budget limit (rna_output run)
+is_rna dna budget limit run is = record { run = run; is = is; writes = refl }
+
+pub rna_whole : (dna : List Base) (budget limit : ℕ) (run : Run) (end : RunEnd) (result : Status) (old new : Option (List ℕ)) (before after : ℕ) → IsRun dna budget limit run → run.end ≡ end
+    → result ≡ status_by false end → new ≡ appended old (rna_lines run.rna) → after ≡ before → Wrote (IsRunOutput verbs.Rna dna budget limit) result old new before after
+rna_whole dna budget limit run end result old new before after is ends told put kept =
+    Whole (rna_output run) (is_rna dna budget limit run is) (told ∙ ap (status_by false) (sym ends)) put kept
+
+pub rna_cut_off : (dna : List Base) (budget limit : ℕ) (run : Run) (old new : Option (List ℕ)) (before after : ℕ) → IsRun dna budget limit run
+    → PutsFront old new (rna_lines run.rna) → Rose before after → Wrote (IsRunOutput verbs.Rna dna budget limit) WriteFault old new before after
+rna_cut_off dna budget limit run old new before after is front rose = CutOff (rna_output run) (is_rna dna budget limit run is) refl front rose
+
+pub rna_spent : (dna : List Base) (budget limit : ℕ) (run : Run) (old new : Option (List ℕ)) (before after : ℕ) → IsRun dna budget limit run
+    → PutsFront old new (rna_lines run.rna) → after ≡ before → Wrote (IsRunOutput verbs.Rna dna budget limit) NoMemory old new before after
+rna_spent dna budget limit run old new before after is front kept = SpentRoom (rna_output run) (is_rna dna budget limit run is) refl front kept
+
+-- the letters of the DNA where a run ended
+pub dna_put : {T E : Type 0} (dna : List Base) (budget limit : ℕ) (run : Run) (end : RunEnd) (left : List Base) (written : Result T E) (result : Status) (old new : Option (List ℕ)) (before after : ℕ)
+    → IsRun dna budget limit run → run.end ≡ end → run.dna ≡ left → result ≡ status_after written (status_by true end) → Puts written old new (letters left) → HasCause before after written
+    → Wrote (IsRunOutput verbs.Dna dna budget limit) result old new before after
+dna_put dna budget limit run end left written result old new before after is ends stands told puts cause =
+    let writes : record { status = status_by true end; bytes = letters left } ≡ record { status = status_by true run.end; bytes = letters run.dna } =
+    ap (λ e. record { status = status_by true e; bytes = letters left }) (sym ends) ∙ ap (λ d. record { status = status_by true run.end; bytes = letters d }) (sym stands) in
+    output_put (IsRunOutput verbs.Dna dna budget limit) (record { status = status_by true end; bytes = letters left }) written result old new before after
+    (record { run = run; is = is; writes = writes }) told puts cause
+
+-- the picture that a run's RNA drew
+pub image_put : {T E : Type 0} (side most : ℕ) (profile : Profile) (dna : List Base) (budget limit : ℕ) (end : RunEnd) (picture : Picture) (top : List Rgba) (written : Result T E) (result : Status)
+    (old new : Option (List ℕ)) (before after : ℕ) → DrewRun side most profile dna budget limit end picture → top ≡ top_of picture.layers → result ≡ status_after written (status_by false end)
+    → Puts written old new (ppm side top) → HasCause before after written → Wrote (IsImageOf side most profile dna budget limit) result old new before after
+image_put side most profile dna budget limit end picture top written result old new before after drew is_top told puts cause =
+    let output : Output = record { status = status_by false end; bytes = ppm side top } in
+    let same : output ≡ record { status = status_by false drew.run.end; bytes = ppm side (top_of picture.layers) } =
+    ap (λ e. record { status = status_by false e; bytes = ppm side top }) (sym drew.ends) ∙ ap (λ t. record { status = status_by false drew.run.end; bytes = ppm side t }) is_top in
+    output_put (IsImageOf side most profile dna budget limit) output written result old new before after
+    (record { run = drew.run; is = drew.is; writes = record { picture = picture; builds = drew.builds; is = same } }) told puts cause
+
+pub plain_image : (dna : List Base) (budget limit : ℕ) (result : Status) (old new : Option (List ℕ)) (before after : ℕ)
+    → Wrote (IsImageOf 600 10 profile.Plain dna budget limit) result old new before after → Wrote (IsRunOutput (verbs.Image profile.Plain) dna budget limit) result old new before after
+unfolding picture_side most_layers
+plain_image dna budget limit result old new before after wrote =
+    wrote_as _ (IsRunOutput (verbs.Image profile.Plain) dna budget limit) result old new before after (λ output image. record { run = image.run; is = image.is; writes = image.writes }) wrote
+
+pub wide_image : (dna : List Base) (budget limit : ℕ) (result : Status) (old new : Option (List ℕ)) (before after : ℕ)
+    → Wrote (IsImageOf 1024 16 profile.Wide dna budget limit) result old new before after → Wrote (IsRunOutput (verbs.Image profile.Wide) dna budget limit) result old new before after
+unfolding picture_side most_layers
+wide_image dna budget limit result old new before after wrote =
+    wrote_as _ (IsRunOutput (verbs.Image profile.Wide) dna budget limit) result old new before after (λ output image. record { run = image.run; is = image.is; writes = image.writes }) wrote
+
+-- what is drawn of commands
+pub drawing_wrote : (inputs : Plain) (profile : Profile) (commands : List (List Base)) (result : Status) (old new : Option (List ℕ)) (before after : ℕ)
+    → Wrote (IsBody Done (Drawing profile commands)) result old new before after → Drawing profile commands ≡ plain_body inputs → Wrote (IsBody Done (plain_body inputs)) result old new before after
+drawing_wrote inputs profile commands result old new before after wrote same = subst (λ body. Wrote (IsBody Done body) result old new before after) same wrote

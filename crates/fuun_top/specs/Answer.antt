@@ -3,6 +3,7 @@ use Rattle.std.specs.Prelude.{◌≡◌, ◌⊎◌, ℕ, ◌≤◌, Bool, Option
 use Rattle.std.specs.List.{AllByRecursion, sum_by}
 use Rattle.std.specs.Option.{option_map_or}
 use Rattle.fuun_io.specs.Counts.{raised}
+use Rattle.fuun_io.specs.Written.{appended}
 use Rattle.fuun_top.specs.declared.status.Status.{Status}
 use Rattle.fuun_top.specs.declared.status.Status.TheVariants.{ReadFault, WriteFault, NoMemory}
 use Rattle.fuun_top.specs.Reading.{Files, files_of}
@@ -21,6 +22,10 @@ MayAsk allows (Some asked) = AreAllowed allows (files_of (sorted asked))
 -- the answer is this status, or memory is wanted, or a read or a write failed
 abbrev pub AnswersOrFails : Status → Status → Type 0
 AnswersOrFails status result = (result ≡ status) ⊎ (result ≡ NoMemory) ⊎ (result ≡ ReadFault) ⊎ (result ≡ WriteFault)
+
+-- bytes were appended, maybe none
+abbrev pub Grows : Option (List ℕ) → Option (List ℕ) → Type 0
+Grows old new = (more : List ℕ) × (new ≡ appended old more)
 
 -- how many bytes the files of names have together, as far as their contents are told
 abbrev pub told_bytes : Files → List (List ℕ) → ℕ

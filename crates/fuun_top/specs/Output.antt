@@ -7,6 +7,7 @@ use Rattle.rna_code.specs.Commands.{act_of}
 use Rattle.layers.specs.Layers.{top_of}
 use Rattle.painter.specs.Picture.{Picture, Builds, start}
 use Rattle.ppm_out.specs.Ppm.{ppm}
+use Rattle.dna_reader.specs.RnaLines.{rna_lines}
 use Rattle.exec_loop.specs.declared.machine.RunEnd.{RunEnd}
 use Rattle.exec_loop.specs.declared.machine.RunEnd.TheVariants as end
 use Rattle.exec_loop.specs.Run.{Run, IsRun}
@@ -21,7 +22,7 @@ use Rattle.fuun_top.specs.declared.status.Status.{Status}
 use Rattle.fuun_top.specs.declared.status.Status.TheVariants.{Done, Usage, OutOfBudget, TooLong}
 use Rattle.fuun_top.specs.Reading.{Files, Reading, inputs_of}
 use Rattle.fuun_top.specs.Asked.{sorted}
-use Rattle.fuun_top.specs.Texts.{rna_lines, letters}
+use Rattle.fuun_top.specs.Texts.{letters}
 use Rattle.fuun_words.specs.declared.request.Request.{Request}
 use Rattle.fuun_words.specs.Requests.{request}
 

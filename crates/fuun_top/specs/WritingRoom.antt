@@ -1,43 +1,37 @@
 -- What each function that writes promises.
-use Rattle.std.specs.Prelude.{◌≡◌, ℕ, Option, Result, Ok, Err, List}
+use Rattle.std.specs.Prelude.{◌≡◌, ℕ, false, Option, Result, Ok, Err, List}
 use Rattle.fuun_base.specs.declared.letters.Base.{Base}
 use Rattle.fuun_io.specs.Counts.{Rose}
 use Rattle.fuun_io.specs.Written.{appended, PutsFront}
+use Rattle.exec_loop.specs.declared.machine.RunEnd.{RunEnd}
 use Rattle.exec_loop.specs.Run.{Run, IsRun}
-use Rattle.fuun_top.specs.declared.body.Body.{Body as Written}
-use Rattle.fuun_top.specs.declared.body.Body.TheVariants as written
-use Rattle.fuun_top.specs.declared.body.Text.{Text as WrittenText}
-use Rattle.fuun_top.specs.declared.body.Text.TheVariants as text
-use Rattle.fuun_top.specs.declared.running.Ran.{Ran}
+use Rattle.painter.specs.Picture.{Picture, Builds, start}
+use Rattle.rna_code.specs.declared.profile.Profile.{Profile}
+use Rattle.rna_code.specs.Commands.{act_of}
 use Rattle.fuun_top.specs.declared.status.Status.{Status}
 use Rattle.fuun_top.specs.declared.status.Status.TheVariants.{WriteFault, NoMemory}
-use Rattle.fuun_top.specs.Output.{Output, Body, Text, Drawing}
-use Rattle.fuun_top.specs.Texts.{rna_lines, letters}
+use Rattle.fuun_top.specs.Output.{Output, IsPictureOf, status_by}
 
--- an output of this kind was written whole, or cut off by a fault after a front of it, or there was no memory to begin it;
--- with the sink's bytes and count of faults before and after
+-- an output of this kind was written whole, or cut off after a front of it by a fault or for want of memory, or there was no
+-- memory to begin it; with the sink's bytes and count of faults before and after
 pub data Wrote (Is : Output → Type 0) (result : Status) (old new : Option (List ℕ)) (faults_old faults_new : ℕ) : Type 0 where
   Whole : (output : Output) → Is output → result ≡ output.status → new ≡ appended old output.bytes → faults_new ≡ faults_old → Wrote Is result old new faults_old faults_new
   CutOff : (output : Output) → Is output → result ≡ WriteFault → PutsFront old new output.bytes → Rose faults_old faults_new → Wrote Is result old new faults_old faults_new
+  SpentRoom : (output : Output) → Is output → result ≡ NoMemory → PutsFront old new output.bytes → faults_new ≡ faults_old → Wrote Is result old new faults_old faults_new
   NoRoom : result ≡ NoMemory → new ≡ old → faults_new ≡ faults_old → Wrote Is result old new faults_old faults_new
 
--- the run of d has this end and this RNA, and ended on this DNA
-pub record RanTo (d : List Base) (budget limit : ℕ) (ran : Ran) : Type 0 where
+-- the run of a DNA had this end, and its RNA builds this picture
+pub record DrewRun (side most : ℕ) (profile : Profile) (dna : List Base) (budget limit : ℕ) (end : RunEnd) (picture : Picture) : Type 0 where
   pub run : Run
-  pub is : IsRun d budget limit run
-  pub ends : run.end ≡ ran.end
-  pub gives : run.rna ≡ ran.rna
-  pub stands : run.dna ≡ ran.machine.dna
+  pub is : IsRun dna budget limit run
+  pub ends : run.end ≡ end
+  pub builds : Builds side most (act_of profile) run.rna (start side) picture
 
--- the bytes of a text of the program's own type
-abbrev pub text_of : WrittenText → List ℕ
-text_of (text.RnaLines commands) = rna_lines commands.now
-text_of (text.Letters dna) = letters dna.now.bases
-
--- a body of the program's own type
-abbrev pub body_of : Written → Body
-body_of (written.Text text) = Text (text_of text)
-body_of (written.Drawing profile commands) = Drawing profile commands.now
+-- the picture of the RNA of a DNA's run, on bitmaps of this side
+pub record IsImageOf (side most : ℕ) (profile : Profile) (dna : List Base) (budget limit : ℕ) (output : Output) : Type 0 where
+  pub run : Run
+  pub is : IsRun dna budget limit run
+  pub writes : IsPictureOf side most profile run.rna (status_by false run.end) output
 
 -- the status that comes with what was written
 abbrev pub status_after : {T E : Type 0} → Result T E → Status → Status

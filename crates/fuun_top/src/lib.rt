@@ -1,12 +1,12 @@
 //! The top call: words, a folder and a sink in, a status and bytes out.
 #![tactic(auto)]
 
-mod body;
 mod files;
 mod inputs;
 pub mod laws;
 mod letters;
 mod output;
+mod pictures;
 mod request;
 mod running;
 mod status;

@@ -2,7 +2,7 @@ ghost use Rattle.std.specs.Prelude.{◌≡◌, ◌≢◌, ◌+◌, ◌≤◌};
 ghost use Rattle.fuun_io.specs.Counts.{raised, Rose};
 ghost use Rattle.fuun_io.specs.Written.{appended, PutsFront};
 ghost use Rattle.fuun_top.specs.declared.status.InFile.{InFile as AnyFile};
-ghost use Rattle.fuun_top.specs.Answer.{MayAsk, AnswersOrFails, AreGiven};
+ghost use Rattle.fuun_top.specs.Answer.{MayAsk, AnswersOrFails, AreGiven, Grows};
 ghost use Rattle.fuun_top.specs.Output.{Output, IsOutput};
 ghost use Rattle.fuun_top.specs.Reading.{most_bytes};
 ghost use Rattle.fuun_top.specs.Stages.{IsRefusal};
@@ -44,6 +44,7 @@ pub fn fuun<F: Folder, S: Sink, L: Ledger>(
     ensures nothing { IsRefusal result → S.bytes out.new ≡ S.bytes out.old }
 
     // Whatever the folder tells of its files.
+    ensures grows { Grows (S.bytes out.old) (S.bytes out.new) }
     ensures usage { result ≡ Status.Usage → request (texts words.now) ≡ None }
     ensures too_long { (file : AnyFile) → result ≡ Status.InputTooLong file →
         raised (F.given folder.old) (most_bytes + 1) ≤ F.given folder.new }

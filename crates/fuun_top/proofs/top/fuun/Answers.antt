@@ -1,4 +1,4 @@
-use Rattle.fuun_top.proofs.TopLemmas.{asked_output, read_output, refused_answer, refused_whole, wrote_answer, wrote_whole, wrote_part}
+use Rattle.fuun_top.proofs.TopLemmas.{asked_output, read_output, refused_answer, refused_whole, wrote_answer, wrote_whole, wrote_part, wrote_grows, none_grows}
 use Rattle.fuun_top.proofs.StepLemmas.{call_ticked, none_ticked}
 use Rattle.fuun_top.proofs.top.fuun.Goals as goal
 
@@ -34,3 +34,9 @@ returns-in-Ok-read_inputs-clause-steps g c =
 
 pub returns-clause-steps : goal.returns-clause-steps
 returns-clause-steps g c = none_ticked (g.F.Folder.contents c.args.folder.now) _ _
+
+pub returns-in-Ok-read_inputs-clause-grows : goal.returns-in-Ok-read_inputs-clause-grows
+returns-in-Ok-read_inputs-clause-grows g c = wrote_grows _ _ _ _ _ _ c.put_output.ensures.wrote
+
+pub returns-clause-grows : goal.returns-clause-grows
+returns-clause-grows g c = none_grows _

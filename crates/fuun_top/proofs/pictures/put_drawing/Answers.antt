@@ -1,5 +1,5 @@
 use Rattle.fuun_top.specs.Output.{picture_side, most_layers}
-use Rattle.fuun_top.proofs.output.put_drawing.Goals as goal
+use Rattle.fuun_top.proofs.pictures.put_drawing.Goals as goal
 
 pub returns-in-Plain : goal.returns-in-Plain
 unfolding picture_side most_layers

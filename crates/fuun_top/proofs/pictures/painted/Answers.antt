@@ -3,7 +3,7 @@ use Rattle.rna_code.specs.declared.profile.Profile.{Profile}
 use Rattle.rna_code.specs.Commands.{act_of}
 use Rattle.painter.specs.Picture.{Acts, start}
 use Rattle.fuun_top.proofs.DrawingLemmas.{builds_more}
-use Rattle.fuun_top.proofs.output.painted.Goals as goal
+use Rattle.fuun_top.proofs.pictures.painted.Goals as goal
 
 pub loop-command-preserved : goal.loop-command-preserved
 loop-command-preserved g c =

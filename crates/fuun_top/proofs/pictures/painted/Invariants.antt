@@ -1,7 +1,7 @@
 use Rattle.std.proofs.Common.{◌≡◌, take}
 use Rattle.rna_code.specs.Commands.{act_of}
 use Rattle.painter.specs.Picture.{Builds, start}
-use Rattle.fuun_top.proofs.output.painted.Given as goal
+use Rattle.fuun_top.proofs.pictures.painted.Given as goal
 
 abbrev pub invariant-loop-command : goal.invariant-loop-command
 invariant-loop-command g l =
