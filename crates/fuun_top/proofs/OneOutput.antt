@@ -13,6 +13,7 @@ use Rattle.painter.proofs.Pictures.{builds_always, start_is_picture}
 use Rattle.ppm_out.specs.Ppm.{ppm}
 use Rattle.exec_loop.specs.Run.{Run}
 use Rattle.exec_loop.proofs.Runs.{has_run, one_run}
+use Rattle.listing.proofs.ListLemmas.{has_listing, one_listing}
 use Rattle.fuun_top.specs.declared.inputs.Inputs.{Inputs}
 use Rattle.fuun_top.specs.declared.inputs.Inputs.TheVariants as inputs
 use Rattle.fuun_top.specs.declared.request.RunVerb.{RunVerb}
@@ -20,12 +21,12 @@ use Rattle.fuun_top.specs.declared.status.InFile.{InFile}
 use Rattle.fuun_top.specs.declared.status.InFile.TheVariants as file
 use Rattle.fuun_top.specs.declared.status.Status.{Status}
 use Rattle.fuun_top.specs.declared.status.Status.TheVariants.{Done, Usage}
-use Rattle.fuun_top.specs.Output.{Output, Body, Text, Drawing, IsBody, IsRunOutput, IsOutputOf, OutputBy, OutputOf, plain_body, run_body, spent_is_done, status_by, refusal, picture_side, most_layers}
+use Rattle.fuun_top.specs.Output.{Output, Body, Text, Drawing, IsBody, IsRunOutput, IsListingOutput, IsOutputOf, OutputBy, OutputOf, plain_body, run_body, spent_is_done, status_by, refusal, picture_side, most_layers}
 use Rattle.fuun_top.specs.OutputLaws.{IsTold, AreTold, HasOutput, HasOneOutput}
 use Rattle.fuun_top.specs.Reading.{Files, Reading, then_read, within, bytes_in, dna_in, judged_dna, prefix_in, prefix_files, files_of, rna_in, judged_rna, start_in, inputs_of}
 use Rattle.fuun_top.specs.Asked.{sorted}
 use Rattle.fuun_top.specs.declared.request.Asked.{Asked}
-use Rattle.fuun_top.specs.declared.request.Asked.TheVariants.{Run as asked_run, Rna as asked_rna}
+use Rattle.fuun_top.specs.declared.request.Asked.TheVariants.{Run as asked_run, Rna as asked_rna, Listing as asked_listing}
 use Rattle.fuun_words.specs.declared.request.Request.{Request}
 use Rattle.fuun_words.specs.declared.request.RunWords.{RunWords}
 use Rattle.fuun_words.specs.Requests.{request}
@@ -70,13 +71,24 @@ run_one verb dna budget limit a b p q =
     body_one (status_by (spent_is_done verb) p.run.end) (run_body verb p.run) a b p.writes
     (subst (λ (run : Run). IsBody (status_by (spent_is_done verb) run.end) (run_body verb run) b) same q.writes)
 
+listing_has : (dna : List Base) (count : ℕ) → Has (IsListingOutput dna count)
+listing_has dna count =
+    let listing = has_listing dna count in
+    (record { status = Done; bytes = listing.0 }, record { text = listing.0; lists = listing.1; is = refl })
+
+listing_one : (dna : List Base) (count : ℕ) → HasOne (IsListingOutput dna count)
+listing_one dna count a b p q =
+    p.is ∙ ap (λ (text : List ℕ). record { status = Done; bytes = text }) (one_listing dna count p.text q.text p.lists q.lists) ∙ sym q.is
+
 output_has : (inputs : Inputs) → Has (IsOutputOf inputs)
 output_has (inputs.Run verb dna budget limit) = run_has verb dna budget limit
 output_has (inputs.Plain plain) = body_has Done (plain_body plain)
+output_has (inputs.Listing dna count) = listing_has dna count
 
 pub output_one : (inputs : Inputs) → HasOne (IsOutputOf inputs)
 output_one (inputs.Run verb dna budget limit) = run_one verb dna budget limit
 output_one (inputs.Plain plain) = body_one Done (plain_body plain)
+output_one (inputs.Listing dna count) = listing_one dna count
 
 -- it is known what is read
 abbrev Known : {A : Type 0} → Reading A → Type 0
@@ -113,6 +125,7 @@ inputs_known : (files : Files) (asked : Asked) → AllByRecursion (IsTold files)
 inputs_known files (asked_run verb words) told =
     then_known (start_in files words) (λ dna. Some (Ok (inputs.Run verb dna words.budget words.limit))) (start_known files words told) (λ dna. (_, refl))
 inputs_known files (asked_rna verb name) told = then_known (rna_in files name) _ (rna_known files name told.0) (λ commands. (_, refl))
+inputs_known files (asked_listing name count) told = then_known (dna_in files file.Dna name) _ (dna_known files file.Dna name told.0) (λ dna. (_, refl))
 
 by_has : (reading : Reading Inputs) → Known reading → Has (OutputBy reading)
 by_has None (read, is) = absurd (cc is)

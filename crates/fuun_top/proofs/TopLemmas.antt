@@ -51,6 +51,7 @@ end_stage spent (end.TooLong attempt) = refl
 output_stage : (inputs : Inputs) (output : Output) → IsOutputOf inputs output → stage_of output.status ≡ ByOutput
 output_stage (inputs.Run verb dna budget limit) output is = ap stage_of (body_status _ (run_body verb is.run) output is.writes) ∙ end_stage (spent_is_done verb) is.run.end
 output_stage (inputs.Plain plain) output is = ap stage_of (body_status Done (plain_body plain) output is)
+output_stage (inputs.Listing dna count) output is = ap (λ (o : Output). stage_of o.status) is.is
 
 -- a refusal of inputs
 pub refused_answer : (known : Reading Inputs) (status : Status) (output : Output) → Agrees known (Err status) → OutputBy known output → AnswersOrFails output.status status

@@ -1,5 +1,5 @@
 -- What the writing room's functions wrote.
-use Rattle.std.proofs.Common.{◌≡◌, ℕ, true, false, Option, Result, Ok, Err, List, refl, sym, ap, ◌∙◌, subst}
+use Rattle.std.proofs.Common.{◌≡◌, ◌≢◌, ℕ, true, false, Option, Result, Ok, Err, List, refl, sym, ap, ◌∙◌, subst}
 use Rattle.fuun_base.specs.declared.letters.Base.{Base}
 use Rattle.fuun_io.specs.Counts.{HasCause, Rose}
 use Rattle.fuun_io.specs.Written.{appended, Puts, PutsFront}
@@ -18,9 +18,12 @@ use Rattle.fuun_top.specs.declared.request.RunVerb.{RunVerb}
 use Rattle.fuun_top.specs.declared.request.RunVerb.TheVariants as verbs
 use Rattle.fuun_top.specs.declared.status.Status.{Status}
 use Rattle.fuun_top.specs.declared.status.Status.TheVariants.{Done, WriteFault, NoMemory}
-use Rattle.fuun_top.specs.Output.{Output, Drawing, IsBody, IsRunOutput, plain_body, status_by, picture_side, most_layers}
+use Rattle.fuun_top.specs.Output.{Output, Text, Drawing, IsBody, IsRunOutput, IsListingOutput, plain_body, status_by, picture_side, most_layers}
 use Rattle.fuun_top.specs.Texts.{letters}
-use Rattle.fuun_top.specs.WritingRoom.{Wrote, Whole, CutOff, SpentRoom, NoRoom, DrewRun, IsImageOf, status_after}
+use Rattle.fuun_top.specs.WritingRoom.{Wrote, Whole, CutOff, SpentRoom, NoRoom, DrewRun, IsImageOf, status_after, status_listed}
+use Rattle.listing.specs.declared.pairs.ListError.{ListError}
+use Rattle.listing.specs.declared.pairs.ListError.TheVariants as listing
+use Rattle.listing.specs.Lists.{PutsListing}
 
 -- an output was put, whole or in part
 pub output_put : {T E : Type 0} (Is : Output → Type 0) (output : Output) (written : Result T E) (result : Status) (old new : Option (List ℕ)) (before after : ℕ)
@@ -107,3 +110,22 @@ wide_image dna budget limit result old new before after wrote =
 pub drawing_wrote : (inputs : Plain) (profile : Profile) (commands : List (List Base)) (result : Status) (old new : Option (List ℕ)) (before after : ℕ)
     → Wrote (IsBody Done (Drawing profile commands)) result old new before after → Drawing profile commands ≡ plain_body inputs → Wrote (IsBody Done (plain_body inputs)) result old new before after
 drawing_wrote inputs profile commands result old new before after wrote same = subst (λ body. Wrote (IsBody Done body) result old new before after) same wrote
+
+-- a text that is written without a run
+pub text_put : {T E : Type 0} (inputs : Plain) (text : List ℕ) (written : Result T E) (result : Status) (old new : Option (List ℕ)) (before after : ℕ) → Text text ≡ plain_body inputs
+    → result ≡ status_after written Done → Puts written old new text → HasCause before after written → Wrote (IsBody Done (plain_body inputs)) result old new before after
+text_put inputs text written result old new before after same told puts cause =
+    let output : Output = record { status = Done; bytes = text } in
+    subst (λ body. Wrote (IsBody Done body) result old new before after) same
+    (output_put (IsBody Done (Text text)) output written result old new before after refl told puts cause)
+
+-- a listing was put, whole or in part
+pub listing_put : {T : Type 0} (dna : List Base) (count : ℕ) (listed : Result T ListError) (result : Status) (old new : Option (List ℕ)) (before after : ℕ)
+    → PutsListing dna count listed old new → (listed ≡ Err listing.WriteFault → Rose before after) → (listed ≢ Err listing.WriteFault → after ≡ before)
+    → result ≡ status_listed listed → Wrote (IsListingOutput dna count) result old new before after
+listing_put dna count (Ok value) result old new before after put rose kept told =
+    Whole (record { status = Done; bytes = put.text }) (record { text = put.text; lists = put.is; is = refl }) told put.puts (kept (λ e. cc e))
+listing_put dna count (Err listing.WriteFault) result old new before after put rose kept told =
+    CutOff (record { status = Done; bytes = put.text }) (record { text = put.text; lists = put.is; is = refl }) told put.puts (rose refl)
+listing_put dna count (Err listing.NoMemory) result old new before after put rose kept told =
+    SpentRoom (record { status = Done; bytes = put.text }) (record { text = put.text; lists = put.is; is = refl }) told put.puts (kept (λ e. cc e))

@@ -8,6 +8,8 @@ use Rattle.layers.specs.Layers.{top_of}
 use Rattle.painter.specs.Picture.{Picture, Builds, start}
 use Rattle.ppm_out.specs.Ppm.{ppm}
 use Rattle.dna_reader.specs.RnaLines.{rna_lines}
+use Rattle.listing.specs.Lists.{IsListing}
+use Rattle.listing.specs.Names.{names}
 use Rattle.exec_loop.specs.declared.machine.RunEnd.{RunEnd}
 use Rattle.exec_loop.specs.declared.machine.RunEnd.TheVariants as end
 use Rattle.exec_loop.specs.Run.{Run, IsRun}
@@ -17,7 +19,7 @@ use Rattle.fuun_top.specs.declared.inputs.Plain.{Plain}
 use Rattle.fuun_top.specs.declared.inputs.Plain.TheVariants as plain
 use Rattle.fuun_top.specs.declared.request.RunVerb.{RunVerb}
 use Rattle.fuun_top.specs.declared.request.RunVerb.TheVariants.{Rna, Image, Dna}
-use Rattle.fuun_top.specs.declared.request.RnaVerb.TheVariants.{Draw}
+use Rattle.fuun_top.specs.declared.request.RnaVerb.TheVariants.{Draw, Names}
 use Rattle.fuun_top.specs.declared.status.Status.{Status}
 use Rattle.fuun_top.specs.declared.status.Status.TheVariants.{Done, Usage, OutOfBudget, TooLong}
 use Rattle.fuun_top.specs.Reading.{Files, Reading, inputs_of}
@@ -55,6 +57,7 @@ spent_is_done Dna = true
 -- what is made of inputs that always end in Done
 abbrev pub plain_body : Plain → Body
 plain_body (plain.Rna (Draw profile) commands) = Drawing profile commands
+plain_body (plain.Rna (Names profile) commands) = Text (names profile commands)
 
 -- how the end of a run is told
 abbrev pub status_by : Bool → RunEnd → Status
@@ -89,10 +92,17 @@ pub record IsRunOutput (verb : RunVerb) (dna : List Base) (budget limit : ℕ) (
   pub is : IsRun dna budget limit run
   pub writes : IsBody (status_by (spent_is_done verb) run.end) (run_body verb run) output
 
+-- the output is the listing of up to so many pairs of a DNA
+pub record IsListingOutput (dna : List Base) (count : ℕ) (output : Output) : Type 0 where
+  pub text : List ℕ
+  pub lists : IsListing dna count text
+  pub is : output ≡ record { status = Done; bytes = text }
+
 -- the output of inputs
 abbrev pub IsOutputOf : Inputs → Output → Type 0
 IsOutputOf (inputs.Run verb dna budget limit) output = IsRunOutput verb dna budget limit output
 IsOutputOf (inputs.Plain plain) output = IsBody Done (plain_body plain) output
+IsOutputOf (inputs.Listing dna count) output = IsListingOutput dna count output
 
 -- the output of what was read, where that is known
 abbrev pub OutputBy : Reading Inputs → Output → Type 0

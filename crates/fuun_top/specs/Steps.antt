@@ -25,10 +25,11 @@ RunTicks dna budget limit old new =
     (run : Run) (total : ℕ) → IsRun dna budget limit run → WeighTogether (most_height limit) dna run.attempts total
     → Ticks old new (start_steps (length dna) + total)
 
--- without a run none is made
+-- a run makes its nodes, and a listing those of its DNA; else none is made
 abbrev pub InputsTick : Inputs → ℕ → ℕ → Type 0
 InputsTick (inputs.Run verb dna budget limit) old new = RunTicks dna budget limit old new
 InputsTick (inputs.Plain plain) old new = new ≡ old
+InputsTick (inputs.Listing dna count) old new = Ticks old new (start_steps (length dna))
 
 -- nor where the inputs are refused
 abbrev pub ReadingTicks : Reading Inputs → ℕ → ℕ → Type 0

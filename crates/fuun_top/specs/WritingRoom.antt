@@ -9,8 +9,10 @@ use Rattle.painter.specs.Picture.{Picture, Builds, start}
 use Rattle.rna_code.specs.declared.profile.Profile.{Profile}
 use Rattle.rna_code.specs.Commands.{act_of}
 use Rattle.fuun_top.specs.declared.status.Status.{Status}
-use Rattle.fuun_top.specs.declared.status.Status.TheVariants.{WriteFault, NoMemory}
+use Rattle.fuun_top.specs.declared.status.Status.TheVariants.{Done, WriteFault, NoMemory}
 use Rattle.fuun_top.specs.Output.{Output, IsPictureOf, status_by}
+use Rattle.listing.specs.declared.pairs.ListError.{ListError}
+use Rattle.listing.specs.declared.pairs.ListError.TheVariants as listing
 
 -- an output of this kind was written whole, or cut off after a front of it by a fault or for want of memory, or there was no
 -- memory to begin it; with the sink's bytes and count of faults before and after
@@ -37,3 +39,9 @@ pub record IsImageOf (side most : ℕ) (profile : Profile) (dna : List Base) (bu
 abbrev pub status_after : {T E : Type 0} → Result T E → Status → Status
 status_after (Ok value) status = status
 status_after (Err error) status = WriteFault
+
+-- the status that a listing leaves
+abbrev pub status_listed : {T : Type 0} → Result T ListError → Status
+status_listed (Ok value) = Done
+status_listed (Err listing.WriteFault) = WriteFault
+status_listed (Err listing.NoMemory) = NoMemory

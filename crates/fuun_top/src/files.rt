@@ -1,8 +1,8 @@
 // Files, read whole and judged.
-ghost use Rattle.std.specs.Prelude.{◌≡◌, ◌∷◌, [], IsTrue};
+ghost use Rattle.std.specs.Prelude.{◌≡◌, ◌≤◌, ◌∷◌, [], length, vec_len, IfOk, IsTrue};
 ghost use Rattle.std.specs.Result.{result_map_both};
 ghost use Rattle.fuun_top.specs.Answer.{AreAllowed};
-ghost use Rattle.fuun_top.specs.Reading.{bytes_in, dna_in, judged_dna, judged_rna, prefix_files, prefix_in, rna_in};
+ghost use Rattle.fuun_top.specs.Reading.{bytes_in, dna_in, judged_dna, judged_rna, most_bytes, prefix_files, prefix_in, rna_in};
 ghost use Rattle.fuun_top.specs.ReadingRoom.{Judges, Reads};
 
 use crate::{InFile, Status};
@@ -22,6 +22,7 @@ fn file_bytes<F: Folder>(
     file: InFile,
 ) -> Result<Vec<u8>, Status>
     requires { IsTrue (F.allows folder.old name.now) }
+    ensures most { IfOk result (λ bytes. vec_len bytes ≤ most_bytes) }
     ensures reads { Reads (F.contents folder.old) (name.now ∷ []) (bytes_in (F.contents folder.old) file name.now)
         (result_map_both (λ bytes. bytes.items) (λ status. status) result)
         (F.given folder.old) (F.given folder.new) (F.faults folder.old) (F.faults folder.new) }
@@ -38,7 +39,8 @@ fn file_bytes<F: Folder>(
 
 /// The bases that the bytes of a DNA file stand for.
 fn judge_dna(alloc: Global, file: InFile, bytes: &[u8]) -> Result<BaseList, Status>
-    ensures { Judges (judged_dna file bytes.now) result }
+    ensures judges { Judges (judged_dna file bytes.now) result }
+    ensures most { IfOk result (λ dna. length dna ≤ length bytes.now) }
 {
     match read_dna(alloc, bytes) {
         Ok(dna) => Ok(dna),
@@ -66,6 +68,7 @@ pub(crate) fn dna_file<F: Folder>(
     file: InFile,
 ) -> Result<BaseList, Status>
     requires { IsTrue (F.allows folder.old name.now) }
+    ensures most { IfOk result (λ dna. length dna ≤ most_bytes) }
     ensures reads { Reads (F.contents folder.old) (name.now ∷ []) (dna_in (F.contents folder.old) file name.now)
         result (F.given folder.old) (F.given folder.new) (F.faults folder.old) (F.faults folder.new) }
     ensures same_contents { F.contents folder.new ≡ F.contents folder.old }

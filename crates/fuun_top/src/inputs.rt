@@ -1,7 +1,7 @@
 // The reading room: from a request to its inputs.
 ghost use Rattle.std.specs.Prelude.{◌≡◌, ◌≤◌, ◌++◌, length, IfOk};
 ghost use Rattle.fuun_top.specs.Answer.{AreAllowed};
-ghost use Rattle.fuun_top.specs.declared.request.Asked.TheVariants.{Run, Rna};
+ghost use Rattle.fuun_top.specs.declared.request.Asked.TheVariants.{Run, Rna, Listing};
 ghost use Rattle.fuun_top.specs.Reading.{files_of, inputs_of, run_files, start_in, started};
 ghost use Rattle.fuun_top.specs.ReadingRoom.{AreInRange, IsInRange, Judges, Reads};
 
@@ -24,6 +24,11 @@ pub(crate) enum Inputs {
         limit: u64,
     },
     Plain(Plain),
+    /// The listing of a DNA: at most so many pairs.
+    Listing {
+        dna: BaseList,
+        count: u64,
+    },
 }
 
 /// What is worked on without a run. Its output always ends in `Done`.
@@ -48,6 +53,7 @@ pub(crate) fn read_inputs<F: Folder>(
     match asked {
         Asked::Run(verb, words) => read_run(alloc, folder, *verb, words),
         Asked::Rna(verb, name) => read_commands(alloc, folder, *verb, name.as_str()),
+        Asked::Listing(name, count) => read_listed(alloc, folder, name.as_str(), *count),
     }
 }
 
@@ -137,6 +143,25 @@ fn read_commands<F: Folder>(
 {
     match rna_file(alloc, folder, name) {
         Ok(commands) => Ok(Inputs::Plain(Plain::Rna(verb, commands))),
+        Err(status) => Err(status),
+    }
+}
+
+/// Reads the DNA file whose pairs are listed.
+fn read_listed<F: Folder>(
+    alloc: Global,
+    folder: &mut F,
+    name: &str,
+    count: u64,
+) -> Result<Inputs, Status>
+    requires { AreAllowed (F.allows folder.old) (files_of (Listing name.now count)) }
+    ensures reads { Reads (F.contents folder.old) (files_of (Listing name.now count))
+        (inputs_of (F.contents folder.old) (Listing name.now count))
+        result (F.given folder.old) (F.given folder.new) (F.faults folder.old) (F.faults folder.new) }
+    ensures in_range { IfOk result AreInRange }
+{
+    match dna_file(alloc, folder, name, InFile::Dna) {
+        Ok(dna) => Ok(Inputs::Listing { dna, count }),
         Err(status) => Err(status),
     }
 }

@@ -5,6 +5,7 @@ mod files;
 mod inputs;
 pub mod laws;
 mod letters;
+mod listed;
 mod output;
 mod pictures;
 mod request;

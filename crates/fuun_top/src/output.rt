@@ -9,11 +9,13 @@ ghost use Rattle.fuun_top.specs.WritingRoom.{Wrote, status_after};
 
 use crate::Status;
 use crate::inputs::{Inputs, Plain};
+use crate::listed::put_listing;
 use crate::pictures::put_drawing;
 use crate::request::{RnaVerb, RunVerb};
 use crate::running::{machine_on, put_made};
 use fuun_base::{BaseList, NoMemory, Steps};
 use fuun_io::{Sink, WriteFault};
+use listing::list_rna;
 use std::alloc::Global;
 use std::sync::ledger::Ledger;
 
@@ -37,6 +39,7 @@ pub(crate) fn put_output<S: Sink, L: Ledger>(
             limit,
         } => put_run(alloc, verb, dna, budget, limit, out, steps),
         Inputs::Plain(plain) => put_plain(alloc, &plain, out),
+        Inputs::Listing { dna, count } => put_listing(alloc, dna, count, out, steps),
     }
 }
 
@@ -68,6 +71,9 @@ fn put_plain<S: Sink>(alloc: Global, plain: &Plain, out: &mut S) -> Status
 {
     match plain {
         Plain::Rna(RnaVerb::Draw(profile), commands) => put_drawing(alloc, *profile, commands, out),
+        Plain::Rna(RnaVerb::Names(profile), commands) => {
+            status_after(list_rna(commands, *profile, out), Status::Done)
+        }
     }
 }
 

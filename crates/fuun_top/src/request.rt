@@ -22,6 +22,8 @@ pub(crate) enum RunVerb {
 pub(crate) enum RnaVerb {
     /// The picture that they draw.
     Draw(Profile),
+    /// Their names in a profile's table.
+    Names(Profile),
 }
 
 /// What is asked for, by what it works on.
@@ -31,6 +33,8 @@ pub(crate) enum Asked {
     Run(RunVerb, RunWords),
     /// An RNA file, by its name.
     Rna(RnaVerb, Name),
+    /// The listing of a DNA file, by its name: at most so many pairs.
+    Listing(Name, u64),
 }
 
 /// Sorts a request by what it works on.
@@ -44,5 +48,7 @@ pub(crate) fn sorted(request: Request) -> Asked
         Request::Image { run, profile } => Asked::Run(RunVerb::Image(profile), run),
         Request::Dna(words) => Asked::Run(RunVerb::Dna, words),
         Request::Draw { rna, profile } => Asked::Rna(RnaVerb::Draw(profile), rna),
+        Request::Names { rna, profile } => Asked::Rna(RnaVerb::Names(profile), rna),
+        Request::List { dna, count } => Asked::Listing(dna, count),
     }
 }

@@ -144,6 +144,60 @@ fn dna_of_small_files(rt: HostRuntime) -> Result<(), Fail> {
 }
 
 #[test]
+fn names_and_listings_of_small_files(rt: HostRuntime) -> Result<(), Fail> {
+    for (line, file, bytes) in [
+        (
+            "names --rna a",
+            b"PIPIIIC\nPPP\n\n".as_slice(),
+            b"PIPIIIC black\nPPP other\n other\n".as_slice(),
+        ),
+        (
+            "names --rna a",
+            b"PIPIIIC".as_slice(),
+            b"PIPIIIC black\n".as_slice(),
+        ),
+        (
+            "names --rna a",
+            b"PIPIIFP\n".as_slice(),
+            b"PIPIIFP other\n".as_slice(),
+        ),
+        (
+            "names --profile wide --rna a",
+            b"PIPIIFP\n".as_slice(),
+            b"PIPIIFP copy\n".as_slice(),
+        ),
+        (
+            "list --dna a --count 2",
+            ROW,
+            b"0 (!2)P -> PI{0,0}\n26 finish\n".as_slice(),
+        ),
+        (
+            "list --count=1 --dna a",
+            ROW,
+            b"0 (!2)P -> PI{0,0}\n".as_slice(),
+        ),
+        ("list --dna a --count 0", ROW, b"".as_slice()),
+        (
+            "list --dna a --count 1",
+            b"".as_slice(),
+            b"0 finish\n".as_slice(),
+        ),
+    ] {
+        let words = words(rt.alloc(), line)?;
+        expect::<Brand>(
+            &rt,
+            rt.alloc(),
+            Blank::new(1),
+            &words,
+            file,
+            Status::Done,
+            bytes,
+        )?;
+    }
+    Ok(())
+}
+
+#[test]
 fn limits_are_kept(rt: HostRuntime) -> Result<(), Fail> {
     let whole = b"IIPIPIIICPIICIICIFPPIFPPIFPPIFPPIFPPIFPPIFPPIICCCCCCCCC\n".as_slice();
     for (line, status, bytes) in [
@@ -200,6 +254,12 @@ fn refusals_write_nothing(rt: HostRuntime) -> Result<(), Fail> {
             bad_rna(2),
         ),
         ("draw --rna a", b"x".as_slice(), bad_rna(1)),
+        (
+            "names --rna a",
+            b"PIPIIIC\nPIPIIICP\n".as_slice(),
+            bad_rna(2),
+        ),
+        ("list --dna a --count 0", b"IIPIPC\nXCF".as_slice(), bad(7)),
     ] {
         let words = words(rt.alloc(), line)?;
         expect::<Brand>(&rt, rt.alloc(), Blank::new(1), &words, file, status, b"")?;
@@ -223,6 +283,10 @@ fn other_words_are_usage(rt: HostRuntime) -> Result<(), Fail> {
         "rna --dna a b",
         "rna --dna a --profile wide",
         "draw --rna a --profile big",
+        "names --dna a",
+        "list --dna a",
+        "list --dna a --count 1099511627777",
+        "list --dna a --count 1 --prefix p",
     ] {
         let words = words(rt.alloc(), line)?;
         expect::<Brand>(

@@ -51,7 +51,7 @@ pub fn fuun<F: Folder, S: Sink, L: Ledger>(
     ensures read { result ≡ Status.Done →
         AreGiven (F.contents folder.old) (F.given folder.old) (F.given folder.new) (request (texts words.now)) }
 
-    // Nodes of ropes are made for the start of a run and for its attempts alone, wherever the call ends.
+    // Nodes of ropes are made for the start of a run, for its attempts and for a listing alone, wherever the call ends.
     ensures steps { CallTicks (F.contents folder.old) (request (texts words.now)) steps.old steps.new }
 
     // A fault is the answer exactly where one was counted.

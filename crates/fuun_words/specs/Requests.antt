@@ -2,7 +2,7 @@
 use Rattle.std.specs.Prelude.{◌≡◌, ℕ, ◌≤◌, ◌^◌, List, [], ◌∷◌, Option, Some, None, Result, MatchResult, codes, map, option_and_then, option_map, string_bytes, String}
 use Rattle.clap.specs.Walk.{Row, Text, first_of}
 use Rattle.fuun_words.specs.Commands.{command, found_by}
-use Rattle.fuun_words.specs.Numbers.{number_or, profile_or_plain}
+use Rattle.fuun_words.specs.Numbers.{number, number_or, profile_or_plain}
 use Rattle.fuun_words.specs.Verbs.{options_of, verb_of}
 use Rattle.rna_code.specs.declared.profile.Profile.{Profile}
 use Rattle.fuun_words.specs.declared.request.Request.{Request}
@@ -11,7 +11,7 @@ use Rattle.fuun_words.specs.declared.request.RunWords.{RunWords}
 use Rattle.fuun_words.specs.declared.request.WordsError.{WordsError}
 use Rattle.fuun_words.specs.declared.request.WordsError.TheVariants.{Usage}
 use Rattle.fuun_words.specs.declared.verb.Verb.{Verb}
-use Rattle.fuun_words.specs.declared.verb.Verb.TheVariants.{Rna, Image, Dna, Draw}
+use Rattle.fuun_words.specs.declared.verb.Verb.TheVariants.{Rna, Image, Dna, Draw, Names, List as Pairs}
 
 -- the texts of words
 abbrev pub texts : {Z : Type 0} → List (String Z) → List (List ℕ)
@@ -24,6 +24,10 @@ budget_of rows = number_or 10000000 0 (2 ^ 40) (first_of (codes "budget") rows)
 -- the limit in bases: from 1 to 2^40, and 2^26 where none is given
 abbrev pub limit_of : List Row → Option ℕ
 limit_of rows = number_or (2 ^ 26) 1 (2 ^ 40) (first_of (codes "limit") rows)
+
+-- the number of an option that a verb asks for, from 0 to `most`
+abbrev pub number_of : Text → ℕ → List Row → Option ℕ
+number_of option most rows = option_and_then (number 0 most) (first_of option rows)
 
 -- the profile: the plain one where none is given
 abbrev pub profile_of : List Row → Option Profile
@@ -49,6 +53,8 @@ request_of Rna rows = option_map asked.Rna (run_of rows)
 request_of Image rows = both asked.Image (run_of rows) (profile_of rows)
 request_of Dna rows = option_map asked.Dna (run_of rows)
 request_of Draw rows = both asked.Draw (first_of (codes "rna") rows) (profile_of rows)
+request_of Names rows = both asked.Names (first_of (codes "rna") rows) (profile_of rows)
+request_of Pairs rows = both asked.List (first_of (codes "dna") rows) (number_of (codes "count") (2 ^ 40) rows)
 
 -- what words ask for: nothing where they are in no form that a verb has
 abbrev pub request : List Text → Option Request
@@ -72,3 +78,5 @@ IsInRange (asked.Rna run) = IsRunInRange run
 IsInRange (asked.Image run profile) = IsRunInRange run
 IsInRange (asked.Dna run) = IsRunInRange run
 IsInRange (asked.Draw rna profile) = Unit {0}
+IsInRange (asked.Names rna profile) = Unit {0}
+IsInRange (asked.List dna count) = count ≤ 2 ^ 40

@@ -5,7 +5,7 @@ use Rattle.clap.specs.Walk.{Text}
 use Rattle.fuun_words.specs.Commands.{VerbOption}
 use Rattle.fuun_words.specs.declared.verb.Need.TheVariants.{Required, Optional}
 use Rattle.fuun_words.specs.declared.verb.Verb.{Verb}
-use Rattle.fuun_words.specs.declared.verb.Verb.TheVariants.{Rna, Image, Dna, Draw}
+use Rattle.fuun_words.specs.declared.verb.Verb.TheVariants.{Rna, Image, Dna, Draw, Names, List as Pairs}
 
 -- the verbs by their names
 abbrev pub verbs : List (Text × Verb)
@@ -14,6 +14,8 @@ verbs =
     ∷ (codes "image", Image)
     ∷ (codes "dna", Dna)
     ∷ (codes "draw", Draw)
+    ∷ (codes "names", Names)
+    ∷ (codes "list", Pairs)
     ∷ []
 
 -- the verb of this name
@@ -32,3 +34,5 @@ options_of Image =
     ∷ (codes "profile", Optional) ∷ []
 options_of Dna = run_options
 options_of Draw = (codes "rna", Required) ∷ (codes "profile", Optional) ∷ []
+options_of Names = (codes "rna", Required) ∷ (codes "profile", Optional) ∷ []
+options_of Pairs = (codes "dna", Required) ∷ (codes "count", Required) ∷ []

@@ -4,7 +4,7 @@ ghost use Rattle.fuun_words.specs.Commands.{found_in};
 ghost use Rattle.fuun_words.specs.Requests.{request, request_of, run_of, texts, IsInRange, IsRunInRange, Reads};
 
 use crate::command::find_options;
-use crate::values::{budget, limit, name, profile, required_name};
+use crate::values::{MOST, budget, limit, name, profile, required_name, required_number};
 use crate::verb::Verb;
 use crate::{Request, RunWords, WordsError};
 use clap::ArgMatches;
@@ -47,6 +47,14 @@ fn request_from(alloc: Global, verb: Verb, matches: &ArgMatches<'_>) -> Result<R
         Verb::Draw => Ok(Request::Draw {
             rna: required_name(alloc, matches, "rna")?,
             profile: profile(matches)?,
+        }),
+        Verb::Names => Ok(Request::Names {
+            rna: required_name(alloc, matches, "rna")?,
+            profile: profile(matches)?,
+        }),
+        Verb::List => Ok(Request::List {
+            dna: required_name(alloc, matches, "dna")?,
+            count: required_number(matches, "count", MOST)?,
         }),
     }
 }

@@ -30,6 +30,10 @@ pub enum Request {
     Dna(RunWords),
     /// The picture of an RNA file's commands.
     Draw { rna: Name, profile: Profile },
+    /// The names of an RNA file's commands.
+    Names { rna: Name, profile: Profile },
+    /// Patterns and templates that a DNA file holds one after another, at most `count` pairs: from 0 to 2^40.
+    List { dna: Name, count: u64 },
 }
 
 /// Why words give no request.

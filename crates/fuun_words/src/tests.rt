@@ -38,6 +38,14 @@ fn words_ask(rt: HostRuntime) -> Result<(), Fail> {
             "draw --profile=wide --rna r",
             r#"Draw { rna: Name { text: "r" }, profile: Wide }"#,
         ),
+        (
+            "names --rna r --profile wide",
+            r#"Names { rna: Name { text: "r" }, profile: Wide }"#,
+        ),
+        (
+            "list --count=007 --dna a",
+            r#"List { dna: Name { text: "a" }, count: 7 }"#,
+        ),
     ] {
         let request = asked(alloc, line)?.map_err(|_| "no request")?;
         assert_eq!(rt; format!(in alloc; "{request:?}")?.as_str(), answer);
@@ -75,6 +83,9 @@ fn other_words_are_refused(rt: HostRuntime) -> Result<(), Fail> {
         "image --dna a --profile Wide",
         "draw --dna a",
         "draw --rna a --profile",
+        "names --rna a --profile big",
+        "list --dna a",
+        "list --dna a --count 1099511627777",
     ] {
         assert!(rt;
             matches!(asked(alloc, line)?, Err(WordsError::Usage)),

@@ -4,15 +4,15 @@ ghost use Rattle.std.specs.List.{list_all};
 ghost use Rattle.clap.specs.Walk.{first_of};
 ghost use Rattle.fuun_words.specs.Commands.{found_in};
 ghost use Rattle.fuun_words.specs.Numbers.{is_digit, is_number, number};
-ghost use Rattle.fuun_words.specs.Requests.{budget_of, limit_of, profile_of, Reads};
+ghost use Rattle.fuun_words.specs.Requests.{budget_of, limit_of, number_of, profile_of, Reads};
 
 use crate::{Name, WordsError};
 use clap::ArgMatches;
 use rna_code::Profile;
 use std::alloc::Global;
 
-/// The most attempts of a budget, and the most bases of a limit.
-const MOST: u64 = 1 << 40;
+/// The most attempts of a budget, the most bases of a limit, and the most pairs of a listing.
+pub(crate) const MOST: u64 = 1 << 40;
 
 /// Attempts, where no budget is given.
 const BUDGET: u64 = 10_000_000;
@@ -74,6 +74,21 @@ pub(crate) fn limit(matches: &ArgMatches<'_>) -> Result<u64, WordsError>
     match value(matches, "limit") {
         Some(text) => read_number(text, 1, MOST).ok_or(WordsError::Usage),
         None => Ok(LIMIT),
+    }
+}
+
+/// A number that the verb asks for, from 0 to `most`.
+pub(crate) fn required_number(
+    matches: &ArgMatches<'_>,
+    option: &str,
+    most: u64,
+) -> Result<u64, WordsError>
+    ensures read { Reads (number_of option.now most (found_in matches.now)) result }
+    ensures range { IfOk result (λ n. n ≤ most) }
+{
+    match value(matches, option) {
+        Some(text) => read_number(text, 0, most).ok_or(WordsError::Usage),
+        None => Err(WordsError::Usage),
     }
 }
 

@@ -10,6 +10,8 @@ pub(crate) enum Verb {
     Image,
     Dna,
     Draw,
+    Names,
+    List,
 }
 
 /// Whether a verb asks for an option.
@@ -39,6 +41,8 @@ static IMAGE: [VerbOption; 5] = [
 
 static DRAW: [VerbOption; 2] = [("rna", Need::Required), ("profile", Need::Optional)];
 
+static LIST: [VerbOption; 2] = [("dna", Need::Required), ("count", Need::Required)];
+
 impl Verb {
     /// The verb of this name.
     pub(crate) fn of(word: &str) -> Option<Verb>
@@ -49,6 +53,8 @@ impl Verb {
             "image" => Some(Verb::Image),
             "dna" => Some(Verb::Dna),
             "draw" => Some(Verb::Draw),
+            "names" => Some(Verb::Names),
+            "list" => Some(Verb::List),
             _ => None,
         }
     }
@@ -60,7 +66,8 @@ impl Verb {
         match self {
             Verb::Rna | Verb::Dna => RUN.as_slice(),
             Verb::Image => IMAGE.as_slice(),
-            Verb::Draw => DRAW.as_slice(),
+            Verb::Draw | Verb::Names => DRAW.as_slice(),
+            Verb::List => LIST.as_slice(),
         }
     }
 }

@@ -8,3 +8,9 @@ returns-in-Run-clause-ticks g c = rw c.in-Run.is c.put_run.ensures.ticks
 
 pub returns-in-Plain-clause-wrote : goal.returns-in-Plain-clause-wrote
 returns-in-Plain-clause-wrote g c = rw c.in-Plain.is c.put_plain.ensures
+
+pub returns-in-Listing-clause-wrote : goal.returns-in-Listing-clause-wrote
+returns-in-Listing-clause-wrote g c = rw c.in-Listing.is c.put_listing.ensures.wrote
+
+pub returns-in-Listing-clause-ticks : goal.returns-in-Listing-clause-ticks
+returns-in-Listing-clause-ticks g c = rw c.in-Listing.is c.put_listing.ensures.ticks
