@@ -1,7 +1,7 @@
 -- DNA as text, put some letters at a time.
 use Rattle.std.proofs.Common.{◌≡◌, ℕ, ◌+◌, ◌-◌, ◌≤◌, List, ◌++◌, length, take, drop, map, Option, Result, Ok, Err, sym, ap, ◌∙◌, subst, arith, length-drop, take-append-drop}
 use Rattle.std.proofs.Math.Seq.{take-append_seam}
-use Rattle.std.proofs.lemmas.List.{length-take-le, length-map, take-map, drop-map, drop-drop}
+use Rattle.std.proofs.lemmas.List.{length-take-le, length-map, take-map, drop-map}
 use Rattle.fuun_base.specs.declared.letters.Base.{Base}
 use Rattle.fuun_base.specs.Letter.{letter_of}
 use Rattle.fuun_io.specs.Written.{appended, Puts, PutsFront}

@@ -1,14 +1,13 @@
 -- The nodes that a call made, against what it may make.
-use Rattle.std.proofs.Common.{◌≡◌, inl, inr, ℕ, Option, Some, None, Result, Ok, Err, List, length, refl, sym, subst, arith}
+use Rattle.std.proofs.Common.{◌≡◌, inl, inr, ℕ, Option, Some, None, Ok, Err, List, length, refl, sym, subst, arith}
 use Rattle.fuun_base.specs.declared.letters.Base.{Base}
 use Rattle.fuun_base.specs.Ticks.{Ticks}
 use Rattle.exec_loop.specs.State.{State}
-use Rattle.exec_loop.specs.Run.{Run, IsRun}
+use Rattle.exec_loop.specs.Run.{IsRun}
 use Rattle.exec_loop.specs.Weights.{TicksForRun, WeighTogether}
 use Rattle.fuun_top.specs.declared.inputs.Inputs.{Inputs}
 use Rattle.fuun_top.specs.declared.inputs.Inputs.TheVariants as inputs
 use Rattle.fuun_top.specs.declared.request.Asked.{Asked}
-use Rattle.fuun_top.specs.declared.status.Status.{Status}
 use Rattle.fuun_top.specs.Asked.{sorted}
 use Rattle.fuun_top.specs.Reading.{Files, Reading, inputs_of}
 use Rattle.fuun_top.specs.Steps.{most_height, start_steps, RunTicks, InputsTick, ReadingTicks, CallTicks}

@@ -1,4 +1,3 @@
-use Rattle.fuun_top.specs.Output.{IsRunOutput}
 use Rattle.fuun_top.proofs.StepLemmas.{run_ticked}
 use Rattle.fuun_top.proofs.WrittenOutput.{run_wrote}
 use Rattle.fuun_top.proofs.output.put_run.Goals as goal
