@@ -1,5 +1,5 @@
 -- Words over files that are told have exactly one output.
-use Rattle.std.proofs.Common.{◌≡◌, ℕ, Option, Some, None, Result, Ok, Err, List, ◌∷◌, refl, sym, ap, ◌∙◌, subst, arith}
+use Rattle.std.proofs.Common.{◌≡◌, false, ℕ, Option, Some, None, Result, Ok, Err, List, ◌∷◌, refl, sym, ap, ◌∙◌, subst, arith}
 use Rattle.std.specs.List.{AllByRecursion}
 use Rattle.std.specs.Option.{option_map}
 use Rattle.fuun_base.specs.declared.letters.Base.{Base}
@@ -21,15 +21,16 @@ use Rattle.fuun_top.specs.declared.status.InFile.{InFile}
 use Rattle.fuun_top.specs.declared.status.InFile.TheVariants as file
 use Rattle.fuun_top.specs.declared.status.Status.{Status}
 use Rattle.fuun_top.specs.declared.status.Status.TheVariants.{Done, Usage}
-use Rattle.fuun_top.specs.Output.{Output, Body, Text, Drawing, IsBody, IsRunOutput, IsListingOutput, IsOutputOf, OutputBy, OutputOf, plain_body, run_body, spent_is_done, status_by, refusal, picture_side, most_layers}
+use Rattle.fuun_top.specs.Output.{Output, Body, Text, Drawing, IsBody, IsRunOutput, IsTraceOutput, IsListingOutput, IsOutputOf, OutputBy, OutputOf, plain_body, run_body, spent_is_done, status_by, refusal, picture_side, most_layers}
 use Rattle.fuun_top.specs.OutputLaws.{IsTold, AreTold, HasOutput, HasOneOutput}
 use Rattle.fuun_top.specs.Reading.{Files, Reading, then_read, within, bytes_in, dna_in, judged_dna, prefix_in, prefix_files, files_of, rna_in, judged_rna, start_in, inputs_of}
 use Rattle.fuun_top.specs.Asked.{sorted}
 use Rattle.fuun_top.specs.declared.request.Asked.{Asked}
-use Rattle.fuun_top.specs.declared.request.Asked.TheVariants.{Run as asked_run, Rna as asked_rna, Listing as asked_listing}
+use Rattle.fuun_top.specs.declared.request.Asked.TheVariants.{Run as asked_run, Trace as asked_trace, Rna as asked_rna, Listing as asked_listing}
 use Rattle.fuun_words.specs.declared.request.Request.{Request}
 use Rattle.fuun_words.specs.declared.request.RunWords.{RunWords}
 use Rattle.fuun_words.specs.Requests.{request}
+use Rattle.tracer.specs.Lines.{trace_text}
 
 -- what has an output, and what has only one
 abbrev pub Has : (Output → Type 0) → Type 0
@@ -71,6 +72,15 @@ run_one verb dna budget limit a b p q =
     body_one (status_by (spent_is_done verb) p.run.end) (run_body verb p.run) a b p.writes
     (subst (λ (run : Run). IsBody (status_by (spent_is_done verb) run.end) (run_body verb run) b) same q.writes)
 
+trace_has : (dna : List Base) (budget limit : ℕ) → Has (IsTraceOutput dna budget limit)
+trace_has dna budget limit =
+    let run = has_run limit budget dna in
+    (record { status = status_by false run.0.end; bytes = trace_text 0 dna run.0.attempts }, record { run = run.0; is = run.1; tells = refl })
+
+trace_one : (dna : List Base) (budget limit : ℕ) → HasOne (IsTraceOutput dna budget limit)
+trace_one dna budget limit a b p q =
+    p.tells ∙ ap (λ (run : Run). record { status = status_by false run.end; bytes = trace_text 0 dna run.attempts }) (one_run limit budget dna p.run q.run p.is q.is) ∙ sym q.tells
+
 listing_has : (dna : List Base) (count : ℕ) → Has (IsListingOutput dna count)
 listing_has dna count =
     let listing = has_listing dna count in
@@ -82,11 +92,13 @@ listing_one dna count a b p q =
 
 output_has : (inputs : Inputs) → Has (IsOutputOf inputs)
 output_has (inputs.Run verb dna budget limit) = run_has verb dna budget limit
+output_has (inputs.Trace dna budget limit) = trace_has dna budget limit
 output_has (inputs.Plain plain) = body_has Done (plain_body plain)
 output_has (inputs.Listing dna count) = listing_has dna count
 
 pub output_one : (inputs : Inputs) → HasOne (IsOutputOf inputs)
 output_one (inputs.Run verb dna budget limit) = run_one verb dna budget limit
+output_one (inputs.Trace dna budget limit) = trace_one dna budget limit
 output_one (inputs.Plain plain) = body_one Done (plain_body plain)
 output_one (inputs.Listing dna count) = listing_one dna count
 
@@ -124,6 +136,8 @@ start_known files words told =
 inputs_known : (files : Files) (asked : Asked) → AllByRecursion (IsTold files) (files_of asked) → Known (inputs_of files asked)
 inputs_known files (asked_run verb words) told =
     then_known (start_in files words) (λ dna. Some (Ok (inputs.Run verb dna words.budget words.limit))) (start_known files words told) (λ dna. (_, refl))
+inputs_known files (asked_trace words) told =
+    then_known (start_in files words) (λ dna. Some (Ok (inputs.Trace dna words.budget words.limit))) (start_known files words told) (λ dna. (_, refl))
 inputs_known files (asked_rna verb name) told = then_known (rna_in files name) _ (rna_known files name told.0) (λ commands. (_, refl))
 inputs_known files (asked_listing name count) told = then_known (dna_in files file.Dna name) _ (dna_known files file.Dna name told.0) (λ dna. (_, refl))
 

@@ -31,6 +31,7 @@ run_ticked state dna budget limit old mid new same same_limit started ticked = �
 -- no node was made
 none_of_inputs : (inputs : Inputs) (old : ℕ) → InputsTick inputs old old
 none_of_inputs (inputs.Run verb dna budget limit) old = λ run total is weigh. (omega arith, omega arith)
+none_of_inputs (inputs.Trace dna budget limit) old = λ run total is weigh. (omega arith, omega arith)
 none_of_inputs (inputs.Plain plain) old = refl
 none_of_inputs (inputs.Listing dna count) old = (omega arith, omega arith)
 

@@ -50,6 +50,7 @@ end_stage spent (end.TooLong attempt) = refl
 
 output_stage : (inputs : Inputs) (output : Output) → IsOutputOf inputs output → stage_of output.status ≡ ByOutput
 output_stage (inputs.Run verb dna budget limit) output is = ap stage_of (body_status _ (run_body verb is.run) output is.writes) ∙ end_stage (spent_is_done verb) is.run.end
+output_stage (inputs.Trace dna budget limit) output is = ap (λ (o : Output). stage_of o.status) is.tells ∙ end_stage false is.run.end
 output_stage (inputs.Plain plain) output is = ap stage_of (body_status Done (plain_body plain) output is)
 output_stage (inputs.Listing dna count) output is = ap (λ (o : Output). stage_of o.status) is.is
 

@@ -18,12 +18,15 @@ use Rattle.fuun_top.specs.declared.request.RunVerb.{RunVerb}
 use Rattle.fuun_top.specs.declared.request.RunVerb.TheVariants as verbs
 use Rattle.fuun_top.specs.declared.status.Status.{Status}
 use Rattle.fuun_top.specs.declared.status.Status.TheVariants.{Done, WriteFault, NoMemory}
-use Rattle.fuun_top.specs.Output.{Output, Text, Drawing, IsBody, IsRunOutput, IsListingOutput, plain_body, status_by, picture_side, most_layers}
+use Rattle.fuun_top.specs.Output.{Output, Text, Drawing, IsBody, IsRunOutput, IsTraceOutput, IsListingOutput, plain_body, status_by, picture_side, most_layers}
 use Rattle.fuun_top.specs.Texts.{letters}
-use Rattle.fuun_top.specs.WritingRoom.{Wrote, Whole, CutOff, SpentRoom, NoRoom, DrewRun, IsImageOf, status_after, status_listed}
+use Rattle.fuun_top.specs.WritingRoom.{Wrote, Whole, CutOff, SpentRoom, NoRoom, DrewRun, IsImageOf, status_after, status_listed, status_traced}
+use Rattle.tracer.specs.Lines.{trace_text}
+use Rattle.tracer.specs.Traced.{IsTraced}
 use Rattle.listing.specs.declared.pairs.ListError.{ListError}
 use Rattle.listing.specs.declared.pairs.ListError.TheVariants as listing
 use Rattle.listing.specs.Lists.{PutsListing}
+use Rattle.listing.specs.Names.{names}
 
 -- an output was put, whole or in part
 pub output_put : {T E : Type 0} (Is : Output → Type 0) (output : Output) (written : Result T E) (result : Status) (old new : Option (List ℕ)) (before after : ℕ)
@@ -111,13 +114,13 @@ pub drawing_wrote : (inputs : Plain) (profile : Profile) (commands : List (List 
     → Wrote (IsBody Done (Drawing profile commands)) result old new before after → Drawing profile commands ≡ plain_body inputs → Wrote (IsBody Done (plain_body inputs)) result old new before after
 drawing_wrote inputs profile commands result old new before after wrote same = subst (λ body. Wrote (IsBody Done body) result old new before after) same wrote
 
--- a text that is written without a run
-pub text_put : {T E : Type 0} (inputs : Plain) (text : List ℕ) (written : Result T E) (result : Status) (old new : Option (List ℕ)) (before after : ℕ) → Text text ≡ plain_body inputs
-    → result ≡ status_after written Done → Puts written old new text → HasCause before after written → Wrote (IsBody Done (plain_body inputs)) result old new before after
-text_put inputs text written result old new before after same told puts cause =
-    let output : Output = record { status = Done; bytes = text } in
+-- the names of commands
+pub names_wrote : {T E : Type 0} (inputs : Plain) (profile : Profile) (commands : List (List Base)) (written : Result T E) (result : Status) (old new : Option (List ℕ)) (before after : ℕ)
+    → result ≡ status_after written Done → Puts written old new (names profile commands) → HasCause before after written → Text (names profile commands) ≡ plain_body inputs
+    → Wrote (IsBody Done (plain_body inputs)) result old new before after
+names_wrote inputs profile commands written result old new before after told puts cause same =
     subst (λ body. Wrote (IsBody Done body) result old new before after) same
-    (output_put (IsBody Done (Text text)) output written result old new before after refl told puts cause)
+    (output_put (IsBody Done (Text (names profile commands))) (record { status = Done; bytes = names profile commands }) written result old new before after refl told puts cause)
 
 -- a listing was put, whole or in part
 pub listing_put : {T : Type 0} (dna : List Base) (count : ℕ) (listed : Result T ListError) (result : Status) (old new : Option (List ℕ)) (before after : ℕ)
@@ -129,3 +132,25 @@ listing_put dna count (Err listing.WriteFault) result old new before after put r
     CutOff (record { status = Done; bytes = put.text }) (record { text = put.text; lists = put.is; is = refl }) told put.puts (rose refl)
 listing_put dna count (Err listing.NoMemory) result old new before after put rose kept told =
     SpentRoom (record { status = Done; bytes = put.text }) (record { text = put.text; lists = put.is; is = refl }) told put.puts (kept (λ e. cc e))
+
+-- a traced run was put, whole or in part
+traced_put : (old new : State) (budget : ℕ) (traced : Result RunEnd ListError) (result : Status) (told now : Option (List ℕ)) (before after : ℕ)
+    → IsTraced old new budget traced told now → (traced ≡ Err listing.WriteFault → Rose before after) → (traced ≢ Err listing.WriteFault → after ≡ before)
+    → result ≡ status_traced traced → Wrote (IsTraceOutput old.dna budget old.limit) result told now before after
+traced_put old new budget (Ok end) result told now before after put rose kept is =
+    Whole (record { status = status_by false put.run.end; bytes = trace_text 0 old.dna put.run.attempts }) (record { run = put.run; is = put.is; tells = refl })
+    (is ∙ ap (status_by false) (sym put.ends)) put.lines (kept (λ e. cc e))
+traced_put old new budget (Err listing.WriteFault) result told now before after put rose kept is =
+    CutOff (record { status = status_by false put.run.end; bytes = trace_text 0 old.dna put.run.attempts }) (record { run = put.run; is = put.is; tells = refl })
+    is put.part (rose refl)
+traced_put old new budget (Err listing.NoMemory) result told now before after put rose kept is =
+    SpentRoom (record { status = status_by false put.run.end; bytes = trace_text 0 old.dna put.run.attempts }) (record { run = put.run; is = put.is; tells = refl })
+    is put.part (kept (λ e. cc e))
+
+pub trace_put : (old new : State) (dna : List Base) (budget limit : ℕ) (traced : Result RunEnd ListError) (result : Status) (told now : Option (List ℕ)) (before after : ℕ)
+    → old.dna ≡ dna → old.limit ≡ limit
+    → IsTraced old new budget traced told now → (traced ≡ Err listing.WriteFault → Rose before after) → (traced ≢ Err listing.WriteFault → after ≡ before)
+    → result ≡ status_traced traced → Wrote (IsTraceOutput dna budget limit) result told now before after
+trace_put old new dna budget limit traced result told now before after same same_limit put rose kept is =
+    subst (λ d. Wrote (IsTraceOutput d budget limit) result told now before after) same
+    (subst (λ l. Wrote (IsTraceOutput old.dna budget l) result told now before after) same_limit (traced_put old new budget traced result told now before after put rose kept is))

@@ -2,14 +2,16 @@
 use Rattle.fuun_words.specs.declared.request.Request.{Request}
 use Rattle.fuun_words.specs.declared.request.Request.TheVariants as words
 use Rattle.fuun_top.specs.declared.request.Asked.{Asked}
-use Rattle.fuun_top.specs.declared.request.Asked.TheVariants.{Run, Rna, Listing}
+use Rattle.fuun_top.specs.declared.request.Asked.TheVariants.{Run, Trace, Rna, Listing}
 use Rattle.fuun_top.specs.declared.request.RunVerb.TheVariants as run
 use Rattle.fuun_top.specs.declared.request.RnaVerb.TheVariants as rna
 
--- what a verb makes of a run, or of the commands of an RNA file, or the listing of a DNA file
+-- what a verb makes of a run, or the attempts of a run, or what a verb makes of the commands of an RNA file, or the listing of
+-- a DNA file
 abbrev pub sorted : Request → Asked
 sorted (words.Rna asked) = Run run.Rna asked
 sorted (words.Image asked profile) = Run (run.Image profile) asked
+sorted (words.Trace asked) = Trace asked
 sorted (words.Dna asked) = Run run.Dna asked
 sorted (words.Draw name profile) = Rna (rna.Draw profile) name
 sorted (words.Names name profile) = Rna (rna.Names profile) name

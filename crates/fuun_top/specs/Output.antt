@@ -27,6 +27,7 @@ use Rattle.fuun_top.specs.Asked.{sorted}
 use Rattle.fuun_top.specs.Texts.{letters}
 use Rattle.fuun_words.specs.declared.request.Request.{Request}
 use Rattle.fuun_words.specs.Requests.{request}
+use Rattle.tracer.specs.Lines.{trace_text}
 
 -- a status with the bytes that are written before it
 pub record Output : Type 0 where
@@ -92,6 +93,12 @@ pub record IsRunOutput (verb : RunVerb) (dna : List Base) (budget limit : ℕ) (
   pub is : IsRun dna budget limit run
   pub writes : IsBody (status_by (spent_is_done verb) run.end) (run_body verb run) output
 
+-- the output of a run's attempts, a line each
+pub record IsTraceOutput (dna : List Base) (budget limit : ℕ) (output : Output) : Type 0 where
+  pub run : Run
+  pub is : IsRun dna budget limit run
+  pub tells : output ≡ record { status = status_by false run.end; bytes = trace_text 0 dna run.attempts }
+
 -- the output is the listing of up to so many pairs of a DNA
 pub record IsListingOutput (dna : List Base) (count : ℕ) (output : Output) : Type 0 where
   pub text : List ℕ
@@ -101,6 +108,7 @@ pub record IsListingOutput (dna : List Base) (count : ℕ) (output : Output) : T
 -- the output of inputs
 abbrev pub IsOutputOf : Inputs → Output → Type 0
 IsOutputOf (inputs.Run verb dna budget limit) output = IsRunOutput verb dna budget limit output
+IsOutputOf (inputs.Trace dna budget limit) output = IsTraceOutput dna budget limit output
 IsOutputOf (inputs.Plain plain) output = IsBody Done (plain_body plain) output
 IsOutputOf (inputs.Listing dna count) output = IsListingOutput dna count output
 

@@ -12,7 +12,7 @@ use Rattle.fuun_top.specs.declared.status.InFile.TheVariants as file
 use Rattle.fuun_top.specs.declared.status.Status.{Status}
 use Rattle.fuun_top.specs.declared.status.Status.TheVariants.{BadBase, BadRna, InputTooLong, StartTooLong}
 use Rattle.fuun_top.specs.declared.request.Asked.{Asked}
-use Rattle.fuun_top.specs.declared.request.Asked.TheVariants.{Run, Rna, Listing}
+use Rattle.fuun_top.specs.declared.request.Asked.TheVariants.{Run, Trace, Rna, Listing}
 use Rattle.fuun_words.specs.declared.request.RunWords.{RunWords}
 
 -- the contents of files by name, where they are told
@@ -35,6 +35,7 @@ run_files words = words.dna ∷ prefix_files words.prefix
 -- the names of the files that are read, in order
 abbrev pub files_of : Asked → List (List ℕ)
 files_of (Run verb words) = run_files words
+files_of (Trace words) = run_files words
 files_of (Rna verb name) = name ∷ []
 files_of (Listing name count) = name ∷ []
 
@@ -93,6 +94,8 @@ start_in files words =
 abbrev pub inputs_of : Files → Asked → Reading Inputs
 inputs_of files (Run verb words) =
     then_read (start_in files words) (λ dna. Some (Ok (inputs.Run verb dna words.budget words.limit)))
+inputs_of files (Trace words) =
+    then_read (start_in files words) (λ dna. Some (Ok (inputs.Trace dna words.budget words.limit)))
 inputs_of files (Rna verb name) =
     then_read (rna_in files name) (λ commands. Some (Ok (inputs.Plain (plain.Rna verb commands))))
 inputs_of files (Listing name count) =

@@ -28,6 +28,7 @@ RunTicks dna budget limit old new =
 -- a run makes its nodes, and a listing those of its DNA; else none is made
 abbrev pub InputsTick : Inputs → ℕ → ℕ → Type 0
 InputsTick (inputs.Run verb dna budget limit) old new = RunTicks dna budget limit old new
+InputsTick (inputs.Trace dna budget limit) old new = RunTicks dna budget limit old new
 InputsTick (inputs.Plain plain) old new = new ≡ old
 InputsTick (inputs.Listing dna count) old new = Ticks old new (start_steps (length dna))
 

@@ -40,6 +40,12 @@ abbrev pub status_after : {T E : Type 0} → Result T E → Status → Status
 status_after (Ok value) status = status
 status_after (Err error) status = WriteFault
 
+-- the status that a traced run leaves
+abbrev pub status_traced : Result RunEnd ListError → Status
+status_traced (Ok end) = status_by false end
+status_traced (Err listing.WriteFault) = WriteFault
+status_traced (Err listing.NoMemory) = NoMemory
+
 -- the status that a listing leaves
 abbrev pub status_listed : {T : Type 0} → Result T ListError → Status
 status_listed (Ok value) = Done

@@ -1,7 +1,7 @@
 // The reading room: from a request to its inputs.
 ghost use Rattle.std.specs.Prelude.{◌≡◌, ◌≤◌, ◌++◌, length, IfOk};
 ghost use Rattle.fuun_top.specs.Answer.{AreAllowed};
-ghost use Rattle.fuun_top.specs.declared.request.Asked.TheVariants.{Run, Rna, Listing};
+ghost use Rattle.fuun_top.specs.declared.request.Asked.TheVariants.{Run, Trace, Rna, Listing};
 ghost use Rattle.fuun_top.specs.Reading.{files_of, inputs_of, run_files, start_in, started};
 ghost use Rattle.fuun_top.specs.ReadingRoom.{AreInRange, IsInRange, Judges, Reads};
 
@@ -19,6 +19,12 @@ pub(crate) enum Inputs {
     /// A run: the DNA that it starts from, the budget in attempts, and the greatest length of a DNA in bases.
     Run {
         verb: RunVerb,
+        dna: BaseList,
+        budget: u64,
+        limit: u64,
+    },
+    /// A run of which each attempt is told.
+    Trace {
         dna: BaseList,
         budget: u64,
         limit: u64,
@@ -52,6 +58,7 @@ pub(crate) fn read_inputs<F: Folder>(
 {
     match asked {
         Asked::Run(verb, words) => read_run(alloc, folder, *verb, words),
+        Asked::Trace(words) => read_traced(alloc, folder, words),
         Asked::Rna(verb, name) => read_commands(alloc, folder, *verb, name.as_str()),
         Asked::Listing(name, count) => read_listed(alloc, folder, name.as_str(), *count),
     }
@@ -74,6 +81,25 @@ fn read_run<F: Folder>(
     match read_start(alloc, folder, words) {
         Ok(dna) => Ok(Inputs::Run {
             verb,
+            dna,
+            budget: words.budget,
+            limit: words.limit,
+        }),
+        Err(status) => Err(status),
+    }
+}
+
+/// Reads the files of a run of which each attempt is told.
+fn read_traced<F: Folder>(alloc: Global, folder: &mut F, words: &RunWords) -> Result<Inputs, Status>
+    requires allowed { AreAllowed (F.allows folder.old) (files_of (Trace words.now)) }
+    requires in_range { IsInRange (Trace words.now) }
+    ensures reads { Reads (F.contents folder.old) (files_of (Trace words.now))
+        (inputs_of (F.contents folder.old) (Trace words.now))
+        result (F.given folder.old) (F.given folder.new) (F.faults folder.old) (F.faults folder.new) }
+    ensures in_range { IfOk result AreInRange }
+{
+    match read_start(alloc, folder, words) {
+        Ok(dna) => Ok(Inputs::Trace {
             dna,
             budget: words.budget,
             limit: words.limit,

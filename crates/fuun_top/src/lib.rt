@@ -14,6 +14,7 @@ mod status;
 #[cfg(test)]
 mod tests;
 mod top;
+mod traced;
 
 pub use status::{InFile, Status, put_status};
 pub use top::fuun;

@@ -13,6 +13,7 @@ use crate::listed::put_listing;
 use crate::pictures::put_drawing;
 use crate::request::{RnaVerb, RunVerb};
 use crate::running::{machine_on, put_made};
+use crate::traced::put_trace;
 use fuun_base::{BaseList, NoMemory, Steps};
 use fuun_io::{Sink, WriteFault};
 use listing::list_rna;
@@ -38,6 +39,7 @@ pub(crate) fn put_output<S: Sink, L: Ledger>(
             budget,
             limit,
         } => put_run(alloc, verb, dna, budget, limit, out, steps),
+        Inputs::Trace { dna, budget, limit } => put_trace(alloc, dna, budget, limit, out, steps),
         Inputs::Plain(plain) => put_plain(alloc, &plain, out),
         Inputs::Listing { dna, count } => put_listing(alloc, dna, count, out, steps),
     }

@@ -31,6 +31,8 @@ pub(crate) enum RnaVerb {
 pub(crate) enum Asked {
     /// A run, by its words.
     Run(RunVerb, RunWords),
+    /// The attempts of a run, by its words.
+    Trace(RunWords),
     /// An RNA file, by its name.
     Rna(RnaVerb, Name),
     /// The listing of a DNA file, by its name: at most so many pairs.
@@ -46,6 +48,7 @@ pub(crate) fn sorted(request: Request) -> Asked
     match request {
         Request::Rna(words) => Asked::Run(RunVerb::Rna, words),
         Request::Image { run, profile } => Asked::Run(RunVerb::Image(profile), run),
+        Request::Trace(words) => Asked::Trace(words),
         Request::Dna(words) => Asked::Run(RunVerb::Dna, words),
         Request::Draw { rna, profile } => Asked::Rna(RnaVerb::Draw(profile), rna),
         Request::Names { rna, profile } => Asked::Rna(RnaVerb::Names(profile), rna),

@@ -198,6 +198,48 @@ fn names_and_listings_of_small_files(rt: HostRuntime) -> Result<(), Fail> {
 }
 
 #[test]
+fn traces_of_small_files(rt: HostRuntime) -> Result<(), Fail> {
+    let row = b"0 30 (!2)P -> PI{0,0} | match 3 | 5\n1 5 finish\n".as_slice();
+    for (line, file, status, bytes) in [
+        (
+            "trace --dna a --budget 0",
+            ROW,
+            Status::OutOfBudget,
+            b"".as_slice(),
+        ),
+        (
+            "trace --dna a --budget 1",
+            ROW,
+            Status::OutOfBudget,
+            b"0 30 (!2)P -> PI{0,0} | match 3 | 5\n".as_slice(),
+        ),
+        ("trace --dna a", ROW, Status::Done, row),
+        (
+            "trace --prefix p --dna a",
+            b"IFPPIICCFPC".as_slice(),
+            Status::Done,
+            row,
+        ),
+        (
+            "trace --dna a --limit 55",
+            GROWING,
+            Status::TooLong { attempt: 0 },
+            b"0 55 (!8) -> {0,0}{0,0}{0,0}{0,0}{0,0}{0,0}{0,0} | too long\n".as_slice(),
+        ),
+        (
+            "trace --dna a --limit 54",
+            GROWING,
+            Status::StartTooLong,
+            b"".as_slice(),
+        ),
+    ] {
+        let words = words(rt.alloc(), line)?;
+        expect::<Brand>(&rt, rt.alloc(), Blank::new(1), &words, file, status, bytes)?;
+    }
+    Ok(())
+}
+
+#[test]
 fn limits_are_kept(rt: HostRuntime) -> Result<(), Fail> {
     let whole = b"IIPIPIIICPIICIICIFPPIFPPIFPPIFPPIFPPIFPPIFPPIICCCCCCCCC\n".as_slice();
     for (line, status, bytes) in [
@@ -283,6 +325,7 @@ fn other_words_are_usage(rt: HostRuntime) -> Result<(), Fail> {
         "rna --dna a b",
         "rna --dna a --profile wide",
         "draw --rna a --profile big",
+        "trace --dna a --profile wide",
         "names --dna a",
         "list --dna a",
         "list --dna a --count 1099511627777",

@@ -11,7 +11,7 @@ use Rattle.fuun_words.specs.declared.request.RunWords.{RunWords}
 use Rattle.fuun_words.specs.declared.request.WordsError.{WordsError}
 use Rattle.fuun_words.specs.declared.request.WordsError.TheVariants.{Usage}
 use Rattle.fuun_words.specs.declared.verb.Verb.{Verb}
-use Rattle.fuun_words.specs.declared.verb.Verb.TheVariants.{Rna, Image, Dna, Draw, Names, List as Pairs}
+use Rattle.fuun_words.specs.declared.verb.Verb.TheVariants.{Rna, Image, Trace, Dna, Draw, Names, List as Pairs}
 
 -- the texts of words
 abbrev pub texts : {Z : Type 0} → List (String Z) → List (List ℕ)
@@ -51,6 +51,7 @@ both make _ _ = None
 abbrev pub request_of : Verb → List Row → Option Request
 request_of Rna rows = option_map asked.Rna (run_of rows)
 request_of Image rows = both asked.Image (run_of rows) (profile_of rows)
+request_of Trace rows = option_map asked.Trace (run_of rows)
 request_of Dna rows = option_map asked.Dna (run_of rows)
 request_of Draw rows = both asked.Draw (first_of (codes "rna") rows) (profile_of rows)
 request_of Names rows = both asked.Names (first_of (codes "rna") rows) (profile_of rows)
@@ -76,6 +77,7 @@ pub record IsRunInRange (run : RunWords) : Type 0 where
 abbrev pub IsInRange : Request → Type 0
 IsInRange (asked.Rna run) = IsRunInRange run
 IsInRange (asked.Image run profile) = IsRunInRange run
+IsInRange (asked.Trace run) = IsRunInRange run
 IsInRange (asked.Dna run) = IsRunInRange run
 IsInRange (asked.Draw rna profile) = Unit {0}
 IsInRange (asked.Names rna profile) = Unit {0}

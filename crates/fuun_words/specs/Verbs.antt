@@ -5,13 +5,14 @@ use Rattle.clap.specs.Walk.{Text}
 use Rattle.fuun_words.specs.Commands.{VerbOption}
 use Rattle.fuun_words.specs.declared.verb.Need.TheVariants.{Required, Optional}
 use Rattle.fuun_words.specs.declared.verb.Verb.{Verb}
-use Rattle.fuun_words.specs.declared.verb.Verb.TheVariants.{Rna, Image, Dna, Draw, Names, List as Pairs}
+use Rattle.fuun_words.specs.declared.verb.Verb.TheVariants.{Rna, Image, Trace, Dna, Draw, Names, List as Pairs}
 
 -- the verbs by their names
 abbrev pub verbs : List (Text × Verb)
 verbs =
     (codes "rna", Rna)
     ∷ (codes "image", Image)
+    ∷ (codes "trace", Trace)
     ∷ (codes "dna", Dna)
     ∷ (codes "draw", Draw)
     ∷ (codes "names", Names)
@@ -32,6 +33,7 @@ options_of Rna = run_options
 options_of Image =
     (codes "dna", Required) ∷ (codes "prefix", Optional) ∷ (codes "budget", Optional) ∷ (codes "limit", Optional)
     ∷ (codes "profile", Optional) ∷ []
+options_of Trace = run_options
 options_of Dna = run_options
 options_of Draw = (codes "rna", Required) ∷ (codes "profile", Optional) ∷ []
 options_of Names = (codes "rna", Required) ∷ (codes "profile", Optional) ∷ []

@@ -43,6 +43,7 @@ fn request_from(alloc: Global, verb: Verb, matches: &ArgMatches<'_>) -> Result<R
             run: run_words(alloc, matches)?,
             profile: profile(matches)?,
         }),
+        Verb::Trace => Ok(Request::Trace(run_words(alloc, matches)?)),
         Verb::Dna => Ok(Request::Dna(run_words(alloc, matches)?)),
         Verb::Draw => Ok(Request::Draw {
             rna: required_name(alloc, matches, "rna")?,

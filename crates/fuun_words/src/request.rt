@@ -26,6 +26,8 @@ pub enum Request {
     Rna(RunWords),
     /// The picture of a run's RNA.
     Image { run: RunWords, profile: Profile },
+    /// The attempts of a run, a line each.
+    Trace(RunWords),
     /// The DNA where a run ended.
     Dna(RunWords),
     /// The picture of an RNA file's commands.

@@ -46,6 +46,10 @@ fn words_ask(rt: HostRuntime) -> Result<(), Fail> {
             "list --count=007 --dna a",
             r#"List { dna: Name { text: "a" }, count: 7 }"#,
         ),
+        (
+            "trace --dna a --budget=1",
+            r#"Trace(RunWords { dna: Name { text: "a" }, prefix: None, budget: 1, limit: 67108864 })"#,
+        ),
     ] {
         let request = asked(alloc, line)?.map_err(|_| "no request")?;
         assert_eq!(rt; format!(in alloc; "{request:?}")?.as_str(), answer);
@@ -86,6 +90,7 @@ fn other_words_are_refused(rt: HostRuntime) -> Result<(), Fail> {
         "names --rna a --profile big",
         "list --dna a",
         "list --dna a --count 1099511627777",
+        "trace --dna a --profile plain",
     ] {
         assert!(rt;
             matches!(asked(alloc, line)?, Err(WordsError::Usage)),

@@ -8,6 +8,7 @@ ghost use Rattle.fuun_words.specs.Verbs.{verb_of, options_of};
 pub(crate) enum Verb {
     Rna,
     Image,
+    Trace,
     Dna,
     Draw,
     Names,
@@ -51,6 +52,7 @@ impl Verb {
         match word {
             "rna" => Some(Verb::Rna),
             "image" => Some(Verb::Image),
+            "trace" => Some(Verb::Trace),
             "dna" => Some(Verb::Dna),
             "draw" => Some(Verb::Draw),
             "names" => Some(Verb::Names),
@@ -64,7 +66,7 @@ impl Verb {
         ensures { map option_of result.now ≡ options_of self }
     {
         match self {
-            Verb::Rna | Verb::Dna => RUN.as_slice(),
+            Verb::Rna | Verb::Trace | Verb::Dna => RUN.as_slice(),
             Verb::Image => IMAGE.as_slice(),
             Verb::Draw | Verb::Names => DRAW.as_slice(),
             Verb::List => LIST.as_slice(),

@@ -14,3 +14,9 @@ returns-in-Listing-clause-wrote g c = rw c.in-Listing.is c.put_listing.ensures.w
 
 pub returns-in-Listing-clause-ticks : goal.returns-in-Listing-clause-ticks
 returns-in-Listing-clause-ticks g c = rw c.in-Listing.is c.put_listing.ensures.ticks
+
+pub returns-in-Trace-clause-wrote : goal.returns-in-Trace-clause-wrote
+returns-in-Trace-clause-wrote g c = rw c.in-Trace.is c.put_trace.ensures.wrote
+
+pub returns-in-Trace-clause-ticks : goal.returns-in-Trace-clause-ticks
+returns-in-Trace-clause-ticks g c = rw c.in-Trace.is c.put_trace.ensures.ticks
