@@ -11,6 +11,7 @@ use std::test::Fail;
 #[test]
 fn strands_stand_for_lists(rt: HostRuntime) -> Result<(), Fail> {
     cut_and_join::<Brand>(&rt, rt.alloc(), Blank::new(1))?;
+    share_the_worked_dna::<Brand>(&rt, rt.alloc(), Blank::new(1))?;
     quote_ranges::<Brand>(&rt, rt.alloc(), Blank::new(1))?;
     find_needles::<Brand>(&rt, rt.alloc(), Blank::new(1))
 }
@@ -28,7 +29,6 @@ fn cut_and_join<L: Ledger>(rt: &impl Abort, alloc: Global, blank: Blank) -> Resu
     assert_eq!(rt; part.len(), 3);
     let joined = FlatStrand::join(&part, &whole, &mut steps)?;
     expect(rt, alloc, &joined, b"CFPICFPPI")?;
-    expect(rt, alloc, &joined.share()?, b"CFPICFPPI")?;
     expect(rt, alloc, &FlatStrand::empty(alloc), b"")?;
     let want = Tally {
         i: 1,
@@ -41,6 +41,21 @@ fn cut_and_join<L: Ledger>(rt: &impl Abort, alloc: Global, blank: Blank) -> Resu
     assert_eq!(rt; whole.copy_out(3, &mut buf), 3);
     assert_eq!(rt; buf, [Base::P, Base::P, Base::I, Base::I]);
     Ok(())
+}
+
+fn share_the_worked_dna<L: Ledger>(rt: &impl Abort, alloc: Global, blank: Blank) -> Result<(), Fail>
+    requires name { blank.name ≡ L.name }
+    requires parts { blank.parts ≡ L.parts }
+    requires some { 0 < L.parts }
+{
+    let mut steps = Steps::<L>::new(blank);
+    let whole = flat(alloc, b"IIPIPICPIICICIIFICCIFPPIICCFPC", &mut steps)?;
+    expect(
+        rt,
+        alloc,
+        &whole.share()?,
+        b"IIPIPICPIICICIIFICCIFPPIICCFPC",
+    )
 }
 
 fn quote_ranges<L: Ledger>(rt: &impl Abort, alloc: Global, blank: Blank) -> Result<(), Fail>
