@@ -1,0 +1,4 @@
+pub mod Drawing
+pub mod Rows
+pub mod Bounds
+pub mod Lines
