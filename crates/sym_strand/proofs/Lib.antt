@@ -1,0 +1,4 @@
+pub mod Places
+pub mod RunLemmas
+pub mod Tidy
+pub mod CellLemmas

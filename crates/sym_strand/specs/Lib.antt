@@ -1,0 +1,4 @@
+pub mod Cells
+pub mod Segments
+pub mod Runs
+pub mod Kept
