@@ -1,0 +1,1 @@
+//! What holds of the definitions. Each call does nothing: its clause is the law.
