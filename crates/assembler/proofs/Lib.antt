@@ -1,0 +1,7 @@
+pub mod Readers
+pub mod NumberLemmas
+pub mod ItemLemmas
+pub mod PairLemmas
+pub mod AnswerLemmas
+pub mod Listed
+pub mod Steps

@@ -1,9 +1,13 @@
-ghost use Rattle.std.specs.Prelude.{◌≡◌, ◌≢◌, ℕ, ◌^◌, ◌≤◌, Err, List, Ok, [], length, IfErr, IfOk};
+ghost use Rattle.std.specs.Prelude.{◌≡◌, ◌≢◌, ℕ, ◌^◌, ◌≤◌, ◌==◌, Err, List, Ok, [], length, position, unwrap_or, IfErr, IfOk, OnOk};
 ghost use Rattle.fuun_base.specs.RnaFile.{lines};
 ghost use Rattle.assembler.specs.Answers.{Pair, AreTexts, ReadsPairs, IsAssembled};
 ghost use Rattle.assembler.specs.Laws.{IsReadOfNone};
+ghost use Rattle.assembler.specs.Lines.{IsRefusal, IsTaken};
 
-use fuun_base::BaseList;
+use crate::code::{is_readable, put_pair};
+use crate::numbers::rest_from;
+use crate::pairs::read_pair;
+use fuun_base::{Base, BaseList, NoMemory};
 use std::alloc::Global;
 
 /// Why a text was not assembled.
@@ -26,5 +30,55 @@ pub fn assemble(alloc: Global, text: &[u8]) -> Result<BaseList, AsmError>
     ensures reads { IfOk result (λ code. (pairs : List Pair) × AreTexts (lines text.now) pairs × ReadsPairs code pairs []) }
     ensures no_dna { (number : ℕ) → result ≡ Err (AsmError.Unreadable number) → IsReadOfNone (lines text.now) number }
 {
-    Err(AsmError::NoMemory)
+    let mut bases = Vec::new(alloc);
+    let mut rest = text;
+    let mut number = 1;
+    'lines: while rest.len() > 0 {
+        let len = line_len(rest);
+        if let Err(error) = assemble_line(alloc, &rest[..len], number, &mut bases) {
+            return Err(error);
+        }
+        rest = rest_from(rest, len + 1);
+        number += 1;
+    }
+    Ok(BaseList::from_vec(bases))
+}
+
+// How many bytes the first line has.
+fn line_len(bytes: &[u8]) -> usize
+    ensures value { result ≡ unwrap_or (position (λ byte. byte == 10) bytes.now) (length bytes.now) }
+    ensures within { result ≤ length bytes.now }
+{
+    line_feed(bytes).unwrap_or(bytes.len())
+}
+
+// Where the first line feed stands.
+fn line_feed(bytes: &[u8]) -> Option<usize>
+    ensures { result ≡ position (λ byte. byte == 10) bytes.now }
+{
+    bytes.iter().position(|byte| *byte == b'\n')
+}
+
+// Appends the code of the line of this number.
+fn assemble_line(
+    alloc: Global,
+    line: &[u8],
+    number: u64,
+    out: &mut Vec<Base>,
+) -> Result<(), AsmError>
+    ensures taken { OnOk result (IsTaken line.now out.old.items out.new.items) }
+    ensures refused { IfErr result (λ error. IsRefusal line.now number error) }
+{
+    let pair = match read_pair(alloc, line) {
+        Ok(Some(pair)) => pair,
+        Ok(None) => return Err(AsmError::BadText { line: number }),
+        Err(NoMemory) => return Err(AsmError::NoMemory),
+    };
+    if !is_readable(&pair.pattern) {
+        return Err(AsmError::Unreadable { line: number });
+    }
+    match put_pair(&pair, out) {
+        Ok(()) => Ok(()),
+        Err(NoMemory) => Err(AsmError::NoMemory),
+    }
 }

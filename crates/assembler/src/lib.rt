@@ -2,6 +2,13 @@
 #![tactic(auto)]
 
 mod assembling;
+mod code;
+mod items;
 pub mod laws;
+mod numbers;
+mod pairs;
 
 pub use assembling::{AsmError, assemble};
+
+#[cfg(test)]
+mod tests;
