@@ -3,17 +3,14 @@ use canvas::Spot;
 use std::alloc::Global;
 use std::test::Fail;
 
-// A file with this header, and these bytes of pixels and others behind them, the first of which are 1, 2, 3 and so on.
+// A file with this header and so many bytes behind it, the first of which are 1 to 9 and the others 0.
 fn file(alloc: Global, header: &[u8], count: usize) -> Result<Vec<u8>, Fail> {
-    let mut bytes = Vec::from_slice(alloc, header)?;
-    for byte in 1..10 {
-        bytes.push(byte)?;
-    }
-    let start = bytes.len() - 9;
-    if count > 2_000_000 || start > 100 {
+    if count > 2_000_000 || header.len() > 100 {
         return Err("too many bytes".into());
     }
-    bytes.resize(start + count, 0)?;
+    let mut bytes = Vec::from_slice(alloc, header)?;
+    bytes.extend_from_slice(&[1, 2, 3, 4, 5, 6, 7, 8, 9])?;
+    bytes.resize(header.len() + count, 0)?;
     Ok(bytes)
 }
 

@@ -1,0 +1,4 @@
+pub mod Runs
+pub mod Drawing
+pub mod Lengths
+pub mod Law

@@ -1,0 +1,7 @@
+//! The compiler of pictures: DNA that makes the machine draw a picture of 600 by 600 pixels.
+#![tactic(auto)]
+
+mod compiling;
+mod runs;
+
+pub use compiling::{DrawError, compile_picture};
