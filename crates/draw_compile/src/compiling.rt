@@ -3,6 +3,8 @@ ghost use Rattle.std.specs.Prelude.{◌≡◌, ◌^◌, ◌<◌, ◌≤◌, Err,
 ghost use Rattle.draw_compile.specs.Drawing.{drawing};
 ghost use Rattle.draw_compile.specs.Law.{Draws};
 
+use crate::counting::drawing_len;
+use crate::drawing::drawing_of;
 use fuun_base::BaseList;
 use picture_in::Picture;
 use std::alloc::Global;
@@ -18,16 +20,19 @@ pub enum DrawError {
 /// The DNA that draws a picture, of at most `limit` bases, where `limit` is at most 2^40. Each run of equal pixels in a row
 /// is drawn as a line, behind the 255 inks whose average is its colour. The length, at most 932,418,000 bases, is counted
 /// before any DNA is made.
-pub fn compile_picture(
-    alloc: Global,
-    picture: &Picture,
-    limit: u64,
-) -> Result<BaseList, DrawError>
+pub fn compile_picture(alloc: Global, picture: &Picture, limit: u64) -> Result<BaseList, DrawError>
     requires { limit ≤ 2 ^ 40 }
     ensures drawing { IfOk result (λ list. list ≡ drawing picture.now) }
     ensures within { IfOk result (λ list. length list ≤ limit) }
     ensures draws { IfOk result (λ list. Draws list picture.now) }
     ensures too_long { result ≡ Err DrawError.TooLong → limit < length (drawing picture.now) }
 {
-    Err(DrawError::NoMemory)
+    let len = drawing_len(picture);
+    if len > limit {
+        return Err(DrawError::TooLong);
+    }
+    match drawing_of(alloc, picture, len as usize) {
+        Ok(bases) => Ok(BaseList::from_vec(bases)),
+        Err(_) => Err(DrawError::NoMemory),
+    }
 }

@@ -2,6 +2,12 @@
 #![tactic(auto)]
 
 mod compiling;
+mod counting;
+mod drawing;
+pub mod laws;
 mod runs;
 
 pub use compiling::{DrawError, compile_picture};
+
+#[cfg(test)]
+mod tests;

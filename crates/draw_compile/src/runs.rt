@@ -20,12 +20,40 @@ pub(crate) struct Run {
     pub(crate) len: u32,
 }
 
+/// The run that begins at a spot.
+pub(crate) fn run_at(picture: &Picture, start: Spot) -> Run
+    requires { (start.x < SIDE) × (start.y < SIDE) }
+    ensures first { let row = row_at 600 picture.now start.y in
+        runs_of (drop start.x row) ≡ result ∷ runs_of (drop (start.x + result.len) row) }
+    ensures some { 1 ≤ result.len }
+    ensures within { start.x + result.len ≤ SIDE }
+{
+    let pixel = picture.rgb(start);
+    let mut stop = start.x + 1;
+    while stop < SIDE
+        && is_at(
+            picture,
+            Spot {
+                x: stop,
+                y: start.y,
+            },
+            pixel,
+        )
+    {
+        stop += 1;
+    }
+    Run {
+        pixel,
+        len: stop - start.x,
+    }
+}
+
 // Whether the pixel at a spot is this one.
 fn is_at(picture: &Picture, spot: Spot, pixel: Rgb) -> bool
     requires { (spot.x < SIDE) × (spot.y < SIDE) }
-    ensures { result ≡ same (rgb_at picture.now spot.x spot.y) pixel }
+    ensures { result ≡ same pixel (rgb_at picture.now spot.x spot.y) }
 {
-    same(picture.rgb(spot), pixel)
+    same(pixel, picture.rgb(spot))
 }
 
 /// Whether the bucket is to be filled for a pixel behind the run of another, or behind none.

@@ -45,6 +45,14 @@ impl Picture {
         Ok(Picture { bytes })
     }
 
+    /// How many pixels it has: 360,000.
+    pub fn pixel_count(&self) -> usize
+        ensures count { result ≡ length self.now }
+        ensures picture { IsPicture self.now }
+    {
+        self.bytes.len() / 3
+    }
+
     /// The red, the green and the blue of a pixel, each from 0 to 255. Both coordinates are below 600. It takes constant
     /// time.
     pub fn rgb(&self, spot: Spot) -> (u8, u8, u8)

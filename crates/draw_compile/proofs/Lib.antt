@@ -1,0 +1,10 @@
+pub mod RunLemmas
+pub mod RowLemmas
+pub mod LengthLemmas
+pub mod CodeLemmas
+pub mod Codes
+pub mod InkLemmas
+pub mod Stretches
+pub mod Acting
+pub mod Drawn
+pub mod DrawingLaw
