@@ -132,6 +132,17 @@ answer_is_one all (Err (Unreadable m)) (Err (Unreadable n)) x y =
 answer_is_one all (Err (Unreadable m)) (Err NoMemory) x y = absurd y
 answer_is_one all (Err NoMemory) b x y = absurd x
 
+-- the answer of a text
+pub answer_of : List ℕ → Result (List Base) AsmError
+answer_of text = (has_answer (lines text)).0
+
+pub answer_of_is : (text : List ℕ) → IsAssembled text (answer_of text)
+unfolding answer_of
+answer_of_is text = (has_answer (lines text)).1
+
+pub is_answer_of : (text : List ℕ) (answer : Result (List Base) AsmError) → IsAssembled text answer → answer ≡ answer_of text
+is_answer_of text answer is = answer_is_one (lines text) answer (answer_of text) is (answer_of_is text)
+
 -- what is read
 
 pub texts_are_read : (all : List (List ℕ)) (pairs : List Pair) → AreTexts all pairs → ReadsPairs (pairs_code pairs) pairs []

@@ -39,30 +39,30 @@ line_shown len place line pair left is whole =
     let here : place ≡ len - length left = omega arith in
     ap (λ n. number_text n ++ (codes " " ++ (line ++ codes "\n"))) here ∙ ap (λ l. number_text (len - length left) ++ (codes " " ++ (l ++ codes "\n"))) is.text
 
-lists_lines : (len place count : ℕ) (all : List (List ℕ)) (pairs : List Pair) → AreTexts all pairs → length all < count → place + length (pairs_code pairs) ≡ len → ListsFrom len count (pairs_code pairs) (shown_from place all pairs)
-lists_lines len place zero all pairs texts more whole = absurd (omega arith)
-lists_lines len place (suc count) [] [] texts more whole =
+lists_lines : (len place count : ℕ) (all : List (List ℕ)) (pairs : List Pair) → AreTexts all pairs → place + length (pairs_code pairs) ≡ len → ListsFrom len count (pairs_code pairs) (shown_from count place all pairs)
+lists_lines len place zero all pairs texts whole = refl
+lists_lines len place (suc count) [] [] texts whole =
     let here : place ≡ len - 0 = omega arith in
     inl (NoPattern [] (reads_none pattern_table pattern_fits 0 [] refl), ap last_line here)
-lists_lines len place (suc count) [] (pair ∷ pairs) texts more whole = absurd texts
-lists_lines len place (suc count) (line ∷ all) [] texts more whole = absurd texts
-lists_lines len place (suc count) (line ∷ all) (pair ∷ pairs) texts more whole =
+lists_lines len place (suc count) [] (pair ∷ pairs) texts whole = absurd texts
+lists_lines len place (suc count) (line ∷ all) [] texts whole = absurd texts
+lists_lines len place (suc count) (line ∷ all) (pair ∷ pairs) texts whole =
     let code : List Base = pair_code pair.0 pair.1 in
     let rest : List Base = pairs_code pairs in
     let next : ℕ = place + length code in
-    let behind = lists_lines len next count all pairs texts.2 (omega arith) (omega (arith, length-append code rest)) in
+    let behind = lists_lines len next count all pairs texts.2 (omega (arith, length-append code rest)) in
     inr (
       pair.0,
       pair.1,
       rest,
-      shown_from next all pairs,
+      shown_from count next all pairs,
       stands_of (code ++ rest) rest pair (pair_code_is_read pair.0 pair.1 rest texts.1),
       behind,
-      ap (λ l. l ++ shown_from next all pairs) (line_shown len place line pair (code ++ rest) texts.0 whole),
+      ap (λ l. l ++ shown_from count next all pairs) (line_shown len place line pair (code ++ rest) texts.0 whole),
     )
 
 pub listing_shows_lines : ListingShowsLines
-listing_shows_lines all pairs count texts more = lists_lines (length (pairs_code pairs)) 0 count all pairs texts more (omega arith)
+listing_shows_lines all pairs count texts = lists_lines (length (pairs_code pairs)) 0 count all pairs texts (omega arith)
 
 -- lines without line feeds
 

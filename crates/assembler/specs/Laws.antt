@@ -1,5 +1,5 @@
 -- What holds of assembled texts.
-use Rattle.std.specs.Prelude.{◌≡◌, ℕ, ◌+◌, ◌-◌, ◌<◌, Some, slice_get, List, [], ◌∷◌, ◌++◌, Result, Ok, Err, codes, flat_map, length}
+use Rattle.std.specs.Prelude.{◌≡◌, ℕ, zero, suc, ◌+◌, ◌-◌, Some, slice_get, List, [], ◌∷◌, ◌++◌, Result, Ok, Err, codes, flat_map, length}
 use Rattle.std.specs.List.{AllByRecursion}
 use Rattle.fuun_base.specs.declared.letters.Base.{Base}
 use Rattle.dna_items.specs.declared.items.PatItem.{PatItem}
@@ -43,16 +43,17 @@ pub record IsReadOfNone (all : List (List ℕ)) (number : ℕ) : Type 0 where
 abbrev pub RefusedIsNotRead : Type 0
 RefusedIsNotRead = (all : List (List ℕ)) (number : ℕ) → IsAnswer all (Err (Unreadable number)) → IsReadOfNone all number
 
--- what a listing shows of lines that were assembled: each behind its place, and then the end
-abbrev pub shown_from : ℕ → List (List ℕ) → List Pair → List ℕ
-shown_from place [] pairs = last_line place
-shown_from place (line ∷ lines) [] = []
-shown_from place (line ∷ lines) (pair ∷ pairs) =
-    (number_text place ++ (codes " " ++ (line ++ codes "\n"))) ++ shown_from (place + length (pair_code pair.0 pair.1)) lines pairs
+-- what a listing of up to so many pairs shows of lines that were assembled: each behind the place of its code, and then the end
+abbrev pub shown_from : ℕ → ℕ → List (List ℕ) → List Pair → List ℕ
+shown_from zero place lines pairs = []
+shown_from (suc count) place [] pairs = last_line place
+shown_from (suc count) place (line ∷ lines) [] = []
+shown_from (suc count) place (line ∷ lines) (pair ∷ pairs) =
+    (number_text place ++ (codes " " ++ (line ++ codes "\n"))) ++ shown_from count (place + length (pair_code pair.0 pair.1)) lines pairs
 
 -- so a listing of assembled DNA shows its lines again
 abbrev pub ListingShowsLines : Type 0
-ListingShowsLines = (all : List (List ℕ)) (pairs : List Pair) (count : ℕ) → AreTexts all pairs → length all < count → IsListing (pairs_code pairs) count (shown_from 0 all pairs)
+ListingShowsLines = (all : List (List ℕ)) (pairs : List Pair) (count : ℕ) → AreTexts all pairs → IsListing (pairs_code pairs) count (shown_from count 0 all pairs)
 
 -- the numbers of a pair are small
 abbrev pub IsSmallPair : Pair → Type 0

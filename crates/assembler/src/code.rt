@@ -82,8 +82,8 @@ fn put_pattern_item(item: &PatItem, out: &mut Vec<Base>) -> Result<(), NoMemory>
         PatItem::Base(base) => quote_into(&[*base], out),
         PatItem::Skip(n) => put_skip(*n, out),
         PatItem::Search(bases) => put_search(bases.as_slice(), out),
-        PatItem::GroupStart => put_letters(&[Base::I, Base::I, Base::P], out),
-        PatItem::GroupStop => put_letters(&[Base::I, Base::I, Base::C], out),
+        PatItem::GroupStart => put_bases(&[Base::I, Base::I, Base::P], out),
+        PatItem::GroupStop => put_bases(&[Base::I, Base::I, Base::C], out),
     }
 }
 
@@ -127,7 +127,7 @@ fn put_length(n: u64, out: &mut Vec<Base>) -> Result<(), NoMemory>
     asnat_into(n, out)
 }
 
-fn put_letters(bases: &[Base], out: &mut Vec<Base>) -> Result<(), NoMemory>
+fn put_bases(bases: &[Base], out: &mut Vec<Base>) -> Result<(), NoMemory>
     ensures { OnOk result (out.new.items ≡ out.old.items ++ bases.now) }
 {
     out.extend_from_slice(bases)?;
