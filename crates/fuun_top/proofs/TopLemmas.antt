@@ -1,22 +1,21 @@
 -- The two rooms together: what was read and what was written, against the output of the words.
-use Rattle.std.proofs.Common.{◌≡◌, ◌⊎◌, inl, inr, ℕ, Bool, true, false, Option, Some, None, Result, Ok, Err, List, [], IfSome, refl, sym, ap, ◌∙◌, subst}
+use Rattle.std.proofs.Common.{◌≡◌, ◌⊎◌, inl, inr, ℕ, Option, Some, None, Result, Ok, Err, List, [], ◌∷◌, ◌++◌, IfSome, refl, sym, ap, ◌∙◌, subst}
+use Rattle.fuun_io.specs.Counts.{Rose}
 use Rattle.fuun_io.specs.Written.{appended, PutsFront}
 use Rattle.fuun_io.proofs.WrittenLemmas.{appended-nil, PutsFront-all, PutsFront-none}
-use Rattle.exec_loop.specs.declared.machine.RunEnd.{RunEnd}
-use Rattle.exec_loop.specs.declared.machine.RunEnd.TheVariants as end
 use Rattle.fuun_top.specs.declared.inputs.Inputs.{Inputs}
-use Rattle.fuun_top.specs.declared.inputs.Inputs.TheVariants as inputs
 use Rattle.fuun_top.specs.declared.status.Status.{Status}
-use Rattle.fuun_top.specs.declared.status.Status.TheVariants.{Done, ReadFault, NoMemory}
+use Rattle.fuun_top.specs.declared.status.Status.TheVariants.{ReadFault, WriteFault, NoMemory}
 use Rattle.fuun_top.specs.Answer.{AnswersOrFails, Grows}
-use Rattle.fuun_top.specs.Output.{Output, Body, Text, Drawing, IsBody, IsOutputOf, OutputBy, OutputOf, plain_body, run_body, spent_is_done, status_by}
+use Rattle.fuun_top.specs.Output.{Output, IsOutputOf, OutputBy, OutputOf}
 use Rattle.fuun_top.specs.Asked.{sorted}
 use Rattle.fuun_top.specs.declared.request.Asked.{Asked}
 use Rattle.fuun_top.specs.Reading.{Files, Reading, inputs_of}
 use Rattle.fuun_words.specs.declared.request.Request.{Request}
-use Rattle.fuun_top.specs.Stages.{ByOutput, stage_of, IsOfInputs}
+use Rattle.fuun_top.specs.Stages.{ByOutput, stage_of, Stage, ByWords, ByReading, ByContents, ByWriting, ByMemory, IsAfterReading, IsBeforeOutput, IsOfInputs, IsOfOutput, IsRefusal}
 use Rattle.fuun_top.specs.WritingRoom.{Wrote, Whole, CutOff, SpentRoom, NoRoom}
 use Rattle.fuun_top.proofs.OneOutput.{output_one}
+use Rattle.fuun_top.proofs.OutputStages.{IsTold, output_told, told_stage}
 
 -- the output of words is that of what they ask for
 pub asked_output : (files : Files) (found : Option Request) (request : Request) (asked : Asked) (output : Output) → found ≡ Some request → asked ≡ sorted request
@@ -37,22 +36,19 @@ read_output (Some (Ok known)) inputs output (inl e) by = subst (λ i. IsOutputOf
 read_output (Some (Ok known)) inputs output (inr (inl e)) by = absurd (cc e)
 read_output (Some (Ok known)) inputs output (inr (inr e)) by = absurd (cc e)
 
--- an output is decided where output is
-body_status : (status : Status) (body : Body) (output : Output) → IsBody status body output → output.status ≡ status
-body_status status (Text bytes) output is = ap (λ (o : Output). o.status) is
-body_status status (Drawing profile rna) output is = ap (λ (o : Output). o.status) is.is
+-- an output without bytes is put whole by any front of it
+none_of_none : (front rest : List ℕ) → [] ≡ front ++ rest → front ≡ []
+none_of_none [] rest is = refl
+none_of_none (byte ∷ front) rest is = absurd (cc is)
 
-end_stage : (spent : Bool) (end : RunEnd) → stage_of (status_by spent end) ≡ ByOutput
-end_stage spent (end.Finished attempts) = refl
-end_stage true end.Budget = refl
-end_stage false end.Budget = refl
-end_stage spent (end.TooLong attempt) = refl
+none_put : (old new : Option (List ℕ)) (bytes : List ℕ) → bytes ≡ [] → PutsFront old new bytes → new ≡ old
+none_put old new bytes none put = put.put ∙ ap (appended old) (none_of_none put.front put.rest (sym none ∙ put.whole)) ∙ appended-nil old
 
-output_stage : (inputs : Inputs) (output : Output) → IsOutputOf inputs output → stage_of output.status ≡ ByOutput
-output_stage (inputs.Run verb dna budget limit) output is = ap stage_of (body_status _ (run_body verb is.run) output is.writes) ∙ end_stage (spent_is_done verb) is.run.end
-output_stage (inputs.Trace dna budget limit) output is = ap (λ (o : Output). stage_of o.status) is.tells ∙ end_stage false is.run.end
-output_stage (inputs.Plain plain) output is = ap stage_of (body_status Done (plain_body plain) output is)
-output_stage (inputs.Listing dna count) output is = ap (λ (o : Output). stage_of o.status) is.is
+-- a result that no output has came with a front of it
+late_whole : (result : Status) (old new : Option (List ℕ)) (output : Output) → IsTold output → (stage_of result ≡ ByOutput → ⊥) → result ≡ output.status → PutsFront old new output.bytes
+    → new ≡ appended old output.bytes
+late_whole result old new output (inl stage) late same put = absurd (late (ap stage_of same ∙ stage))
+late_whole result old new output (inr told) late same put = none_put old new output.bytes told.1 put ∙ sym (ap (appended old) told.1 ∙ appended-nil old)
 
 -- a refusal of inputs
 pub refused_answer : (known : Reading Inputs) (status : Status) (output : Output) → Agrees known (Err status) → OutputBy known output → AnswersOrFails output.status status
@@ -69,13 +65,7 @@ pub refused_whole : (known : Reading Inputs) (status : Status) (output : Output)
 refused_whole None status output told early by same = absurd by
 refused_whole (Some (Err refused)) status output told early by same = sym (ap (λ (o : Output). appended told o.bytes) by ∙ appended-nil told)
 refused_whole (Some (Ok inputs)) status output told early by same =
-    absurd (subst IsOfInputs (ap stage_of same ∙ output_stage inputs output by) early)
-
--- words that were not read
-pub unread_whole : (files : Files) (asked : Option Request) (status : Status) (output : Output) (told : Option (List ℕ)) → IsOfInputs (stage_of status)
-    → OutputOf files asked output → status ≡ output.status → told ≡ appended told output.bytes
-unread_whole files None status output told early by same = sym (ap (λ (o : Output). appended told o.bytes) by ∙ appended-nil told)
-unread_whole files (Some asked) status output told early by same = refused_whole (inputs_of files (sorted asked)) status output told early by same
+    late_whole status told told output (output_told inputs output by) (λ stage. subst IsOfInputs stage early) same (PutsFront-none told output.bytes)
 
 -- what was written, against the output of inputs
 pub wrote_answer : (inputs : Inputs) (result : Status) (old new : Option (List ℕ)) (before after : ℕ) (output : Output)
@@ -84,13 +74,6 @@ wrote_answer inputs result old new before after output (Whole written is status 
 wrote_answer inputs result old new before after output (CutOff written is fault front rose) other = inr (inr (inr fault))
 wrote_answer inputs result old new before after output (SpentRoom written is memory front kept) other = inr (inl memory)
 wrote_answer inputs result old new before after output (NoRoom memory same kept) other = inr (inl memory)
-
-pub wrote_whole : (inputs : Inputs) (result : Status) (old new : Option (List ℕ)) (before after : ℕ) (output : Output)
-    → Wrote (IsOutputOf inputs) result old new before after → IsOutputOf inputs output → result ≡ output.status → new ≡ appended old output.bytes
-wrote_whole inputs result old new before after output (Whole written is status put kept) other same = put ∙ ap (λ (o : Output). appended old o.bytes) (output_one inputs written output is other)
-wrote_whole inputs result old new before after output (CutOff written is fault front rose) other same = absurd (cc (fault, same, output_stage inputs output other))
-wrote_whole inputs result old new before after output (SpentRoom written is memory front kept) other same = absurd (cc (memory, same, output_stage inputs output other))
-wrote_whole inputs result old new before after output (NoRoom memory unwritten kept) other same = absurd (cc (memory, same, output_stage inputs output other))
 
 pub wrote_part : (inputs : Inputs) (result : Status) (old new : Option (List ℕ)) (before after : ℕ) (output : Output)
     → Wrote (IsOutputOf inputs) result old new before after → IsOutputOf inputs output → PutsFront old new output.bytes
@@ -102,6 +85,50 @@ wrote_part inputs result old new before after output (SpentRoom written is memor
     subst (λ (o : Output). PutsFront old new o.bytes) (output_one inputs written output is other) front
 wrote_part inputs result old new before after output (NoRoom memory same kept) other =
     subst (λ told. PutsFront old told output.bytes) (sym same) (PutsFront-none old output.bytes)
+
+pub wrote_whole : (inputs : Inputs) (result : Status) (old new : Option (List ℕ)) (before after : ℕ) (output : Output)
+    → Wrote (IsOutputOf inputs) result old new before after → IsOutputOf inputs output → result ≡ output.status → new ≡ appended old output.bytes
+wrote_whole inputs result old new before after output (Whole written is status put kept) other same = put ∙ ap (λ (o : Output). appended old o.bytes) (output_one inputs written output is other)
+wrote_whole inputs result old new before after output (CutOff written is fault front rose) other same =
+    late_whole result old new output (output_told inputs output other) (λ stage. cc (fault, stage)) same (wrote_part inputs result old new before after output (CutOff written is fault front rose) other)
+wrote_whole inputs result old new before after output (SpentRoom written is memory front kept) other same =
+    late_whole result old new output (output_told inputs output other) (λ stage. cc (memory, stage)) same (wrote_part inputs result old new before after output (SpentRoom written is memory front kept) other)
+wrote_whole inputs result old new before after output (NoRoom memory unwritten kept) other same =
+    late_whole result old new output (output_told inputs output other) (λ stage. cc (memory, stage)) same (wrote_part inputs result old new before after output (NoRoom memory unwritten kept) other)
+
+-- nothing is written at a refusal
+pub wrote_nothing : (inputs : Inputs) (result : Status) (old new : Option (List ℕ)) (before after : ℕ) → Wrote (IsOutputOf inputs) result old new before after → IsRefusal result → new ≡ old
+wrote_nothing inputs result old new before after (Whole written is status put kept) refusal = go (output_told inputs written is)
+  where
+    go : IsTold written → new ≡ old
+    go (inl stage) = absurd (subst IsBeforeOutput (ap stage_of status ∙ stage) refusal)
+    go (inr told) = put ∙ ap (appended old) told.1 ∙ appended-nil old
+wrote_nothing inputs result old new before after (CutOff written is fault front rose) refusal = absurd (subst IsRefusal fault refusal)
+wrote_nothing inputs result old new before after (SpentRoom written is memory front kept) refusal = absurd (subst IsRefusal memory refusal)
+wrote_nothing inputs result old new before after (NoRoom memory same kept) refusal = same
+
+-- the words and the reading are done with
+pub wrote_stage : (inputs : Inputs) (result : Status) (old new : Option (List ℕ)) (before after : ℕ) → Wrote (IsOutputOf inputs) result old new before after → IsAfterReading (stage_of result)
+wrote_stage inputs result old new before after (Whole written is status put kept) = subst (λ s. IsAfterReading (stage_of s)) (sym status) (later (stage_of written.status) (told_stage written (output_told inputs written is)))
+  where
+    later : (stage : Stage) → IsOfOutput stage → IsAfterReading stage
+    later ByWords of = of
+    later ByReading of = of
+    later ByContents of = of
+    later ByOutput of = of
+    later ByWriting of = tt
+    later ByMemory of = of
+wrote_stage inputs result old new before after (CutOff written is fault front rose) = subst (λ s. IsAfterReading (stage_of s)) (sym fault) tt
+wrote_stage inputs result old new before after (SpentRoom written is memory front kept) = subst (λ s. IsAfterReading (stage_of s)) (sym memory) tt
+wrote_stage inputs result old new before after (NoRoom memory same kept) = subst (λ s. IsAfterReading (stage_of s)) (sym memory) tt
+
+-- a fault of writing was counted
+pub wrote_fault : (inputs : Inputs) (result : Status) (old new : Option (List ℕ)) (before after : ℕ) → Wrote (IsOutputOf inputs) result old new before after → result ≡ WriteFault → Rose before after
+wrote_fault inputs result old new before after (Whole written is status put kept) fault =
+    absurd (subst (λ s. IsOfOutput (stage_of s)) (sym status ∙ fault) (told_stage written (output_told inputs written is)))
+wrote_fault inputs result old new before after (CutOff written is cut front rose) fault = rose
+wrote_fault inputs result old new before after (SpentRoom written is memory front kept) fault = absurd (cc (memory, fault))
+wrote_fault inputs result old new before after (NoRoom memory same kept) fault = absurd (cc (memory, fault))
 
 -- bytes only grow
 pub none_grows : (told : Option (List ℕ)) → Grows told told

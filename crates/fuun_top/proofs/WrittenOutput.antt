@@ -1,8 +1,9 @@
 -- What the writing room's functions wrote.
-use Rattle.std.proofs.Common.{◌≡◌, ◌≢◌, ℕ, true, false, Option, Result, Ok, Err, List, refl, sym, ap, ◌∙◌, subst}
+use Rattle.std.proofs.Common.{◌≡◌, ◌≢◌, inl, inr, ℕ, true, false, Option, Result, Ok, Err, List, refl, sym, ap, ◌∙◌, subst}
 use Rattle.fuun_base.specs.declared.letters.Base.{Base}
 use Rattle.fuun_io.specs.Counts.{HasCause, Rose}
 use Rattle.fuun_io.specs.Written.{appended, Puts, PutsFront}
+use Rattle.fuun_io.proofs.WrittenLemmas.{appended-nil}
 use Rattle.canvas.specs.Pixels.{Rgba}
 use Rattle.dna_reader.specs.RnaLines.{rna_lines}
 use Rattle.exec_loop.specs.declared.machine.RunEnd.{RunEnd}
@@ -18,9 +19,9 @@ use Rattle.fuun_top.specs.declared.request.RunVerb.{RunVerb}
 use Rattle.fuun_top.specs.declared.request.RunVerb.TheVariants as verbs
 use Rattle.fuun_top.specs.declared.status.Status.{Status}
 use Rattle.fuun_top.specs.declared.status.Status.TheVariants.{Done, WriteFault, NoMemory}
-use Rattle.fuun_top.specs.Output.{Output, Text, Drawing, IsBody, IsRunOutput, IsTraceOutput, IsListingOutput, plain_body, status_by, picture_side, most_layers}
+use Rattle.fuun_top.specs.Output.{Output, Text, Drawing, IsBody, IsRunOutput, IsTraceOutput, IsListingOutput, IsAnswer, plain_body, refusal, status_by, picture_side, most_layers}
 use Rattle.fuun_top.specs.Texts.{letters}
-use Rattle.fuun_top.specs.WritingRoom.{Wrote, Whole, CutOff, SpentRoom, NoRoom, DrewRun, IsImageOf, status_after, status_listed, status_traced}
+use Rattle.fuun_top.specs.WritingRoom.{Wrote, Whole, CutOff, SpentRoom, NoRoom, Makes, DrewRun, IsImageOf, status_after, status_listed, status_traced}
 use Rattle.tracer.specs.Lines.{trace_text}
 use Rattle.tracer.specs.Traced.{IsTraced}
 use Rattle.listing.specs.declared.pairs.ListError.{ListError}
@@ -33,6 +34,19 @@ pub output_put : {T E : Type 0} (Is : Output → Type 0) (output : Output) (writ
     → Is output → result ≡ status_after written output.status → Puts written old new output.bytes → HasCause before after written → Wrote Is result old new before after
 output_put Is output (Ok value) result old new before after is status put kept = Whole output is status put kept
 output_put Is output (Err error) result old new before after is status front rose = CutOff output is status front rose
+
+-- the text of a value was put, whole or in part
+pub answer_put : {A T E : Type 0} (Is : Result A Status → Type 0) (text : A → List ℕ) (value : A) (written : Result T E) (result : Status) (old new : Option (List ℕ)) (before after : ℕ)
+    → Makes Is (Ok value) → result ≡ status_after written Done → Puts written old new (text value) → HasCause before after written → Wrote (IsAnswer Is text) result old new before after
+answer_put Is text value written result old new before after (inl is) told puts cause =
+    output_put (IsAnswer Is text) (record { status = Done; bytes = text value }) written result old new before after (record { made = Ok value; is = is; tells = refl }) told puts cause
+answer_put Is text value written result old new before after (inr e) told puts cause = absurd (cc e)
+
+-- there was a refusal, or no memory
+pub answer_refused : {A : Type 0} (Is : Result A Status → Type 0) (text : A → List ℕ) (status : Status) (told : Option (List ℕ)) (faults : ℕ)
+    → Makes Is (Err status) → Wrote (IsAnswer Is text) status told told faults faults
+answer_refused Is text status told faults (inl is) = Whole (refusal status) (record { made = Err status; is = is; tells = refl }) refl (sym (appended-nil told)) refl
+answer_refused Is text status told faults (inr e) = NoRoom (cc e) refl refl
 
 -- what is of one kind is of another
 wrote_as : (Is Other : Output → Type 0) (result : Status) (old new : Option (List ℕ)) (before after : ℕ) → ((output : Output) → Is output → Other output)

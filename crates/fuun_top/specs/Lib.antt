@@ -2,6 +2,7 @@ pub mod StatusLine
 pub mod Stages
 pub mod Texts
 pub mod Reading
+pub mod Making
 pub mod Output
 pub mod Answer
 pub mod Asked

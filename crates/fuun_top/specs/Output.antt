@@ -1,5 +1,5 @@
 -- What the plain machine answers to words and files: a status and bytes.
-use Rattle.std.specs.Prelude.{◌≡◌, ℕ, Bool, true, false, Option, Some, None, Ok, Err, List, []}
+use Rattle.std.specs.Prelude.{◌≡◌, ℕ, Bool, true, false, Option, Some, None, Result, Ok, Err, List, []}
 use Rattle.fuun_base.specs.declared.letters.Base.{Base}
 use Rattle.rna_code.specs.declared.profile.Profile.{Profile}
 use Rattle.rna_code.specs.declared.profile.Profile.TheVariants as profile
@@ -23,6 +23,7 @@ use Rattle.fuun_top.specs.declared.request.RnaVerb.TheVariants.{Draw, Names}
 use Rattle.fuun_top.specs.declared.status.Status.{Status}
 use Rattle.fuun_top.specs.declared.status.Status.TheVariants.{Done, Usage, OutOfBudget, TooLong}
 use Rattle.fuun_top.specs.Reading.{Files, Reading, inputs_of}
+use Rattle.fuun_top.specs.Making.{IsMade}
 use Rattle.fuun_top.specs.Asked.{sorted}
 use Rattle.fuun_top.specs.Texts.{letters}
 use Rattle.fuun_words.specs.declared.request.Request.{Request}
@@ -105,12 +106,24 @@ pub record IsListingOutput (dna : List Base) (count : ℕ) (output : Output) : T
   pub lists : IsListing dna count text
   pub is : output ≡ record { status = Done; bytes = text }
 
+-- the text of a value, or a refusal
+abbrev pub answered : {A : Type 0} → (A → List ℕ) → Result A Status → Output
+answered text (Ok value) = record { status = Done; bytes = text value }
+answered text (Err status) = refusal status
+
+-- the output is the text of what is made so, or why there is none
+pub record IsAnswer {A : Type 0} (Is : Result A Status → Type 0) (text : A → List ℕ) (output : Output) : Type 0 where
+  pub made : Result A Status
+  pub is : Is made
+  pub tells : output ≡ answered text made
+
 -- the output of inputs
 abbrev pub IsOutputOf : Inputs → Output → Type 0
 IsOutputOf (inputs.Run verb dna budget limit) output = IsRunOutput verb dna budget limit output
 IsOutputOf (inputs.Trace dna budget limit) output = IsTraceOutput dna budget limit output
 IsOutputOf (inputs.Plain plain) output = IsBody Done (plain_body plain) output
 IsOutputOf (inputs.Listing dna count) output = IsListingOutput dna count output
+IsOutputOf (inputs.Text verb text) output = IsAnswer (IsMade verb text) letters output
 
 -- the output of what was read, where that is known
 abbrev pub OutputBy : Reading Inputs → Output → Type 0

@@ -12,7 +12,9 @@ use Rattle.fuun_top.specs.declared.status.InFile.TheVariants as file
 use Rattle.fuun_top.specs.declared.status.Status.{Status}
 use Rattle.fuun_top.specs.declared.status.Status.TheVariants.{BadBase, BadRna, InputTooLong, StartTooLong}
 use Rattle.fuun_top.specs.declared.request.Asked.{Asked}
-use Rattle.fuun_top.specs.declared.request.Asked.TheVariants.{Run, Trace, Rna, Listing}
+use Rattle.fuun_top.specs.declared.request.Asked.TheVariants.{Run, Trace, Rna, Listing, Text}
+use Rattle.fuun_top.specs.declared.request.TextVerb.{TextVerb}
+use Rattle.fuun_top.specs.declared.request.TextVerb.TheVariants as text
 use Rattle.fuun_words.specs.declared.request.RunWords.{RunWords}
 
 -- the contents of files by name, where they are told
@@ -32,12 +34,17 @@ prefix_files (Some name) = name ∷ []
 abbrev pub run_files : RunWords → List (List ℕ)
 run_files words = words.dna ∷ prefix_files words.prefix
 
+-- what a text of which DNA is made is called
+abbrev pub text_file : TextVerb → InFile
+text_file (text.Patch limit) = file.Patch
+
 -- the names of the files that are read, in order
 abbrev pub files_of : Asked → List (List ℕ)
 files_of (Run verb words) = run_files words
 files_of (Trace words) = run_files words
 files_of (Rna verb name) = name ∷ []
 files_of (Listing name count) = name ∷ []
+files_of (Text verb name) = name ∷ []
 
 -- what is read: none where contents that it needs are not told, else a value or a refusal
 abbrev pub Reading : Type 0 → Type 0
@@ -100,3 +107,5 @@ inputs_of files (Rna verb name) =
     then_read (rna_in files name) (λ commands. Some (Ok (inputs.Plain (plain.Rna verb commands))))
 inputs_of files (Listing name count) =
     then_read (dna_in files file.Dna name) (λ dna. Some (Ok (inputs.Listing dna count)))
+inputs_of files (Text verb name) =
+    then_read (bytes_in files (text_file verb) name) (λ contents. Some (Ok (inputs.Text verb contents)))

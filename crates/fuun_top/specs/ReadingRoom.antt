@@ -10,7 +10,9 @@ use Rattle.fuun_top.specs.Answer.{told_bytes}
 use Rattle.fuun_top.specs.Reading.{Files, Reading, most_bytes}
 use Rattle.fuun_top.specs.Stages.{stage_of, IsOfInputs}
 use Rattle.fuun_top.specs.declared.request.Asked.{Asked}
-use Rattle.fuun_top.specs.declared.request.Asked.TheVariants.{Run, Trace, Rna, Listing}
+use Rattle.fuun_top.specs.declared.request.Asked.TheVariants.{Run, Trace, Rna, Listing, Text}
+use Rattle.fuun_top.specs.declared.request.TextVerb.{TextVerb}
+use Rattle.fuun_top.specs.declared.request.TextVerb.TheVariants.{Patch}
 use Rattle.fuun_words.specs.Requests.{IsRunInRange}
 
 -- contents were judged so, or memory was wanted
@@ -30,16 +32,22 @@ pub record Reads {A : Type 0} (files : Files) (names : List (List ℕ)) (known :
   pub fault : result ≡ Err ReadFault → Rose faults_old faults_new
   pub no_fault : result ≢ Err ReadFault → faults_new ≡ faults_old
 
+-- a limit of DNA that is made of a text is at most 2^40 bases
+abbrev pub IsTextInRange : TextVerb → Type 0
+IsTextInRange (Patch limit) = limit ≤ 2 ^ 40
+
 -- the budget and the limit of a run are ones that a machine takes
 abbrev pub IsInRange : Asked → Type 0
 IsInRange (Run verb words) = IsRunInRange words
 IsInRange (Trace words) = IsRunInRange words
 IsInRange (Rna verb name) = Unit {0}
 IsInRange (Listing name count) = Unit {0}
+IsInRange (Text verb name) = IsTextInRange verb
 
--- so are those of what was read, and the DNA is within the limit, or not longer than a file may be
+-- so are those of what was read, and the DNA is within the limit; what is listed or a text is no longer than a file may be
 abbrev pub AreInRange : Inputs → Type 0
 AreInRange (inputs.Run verb dna budget limit) = (budget ≤ 2 ^ 40) × (1 ≤ limit) × (limit ≤ 2 ^ 40) × (length dna ≤ limit)
 AreInRange (inputs.Trace dna budget limit) = (budget ≤ 2 ^ 40) × (1 ≤ limit) × (limit ≤ 2 ^ 40) × (length dna ≤ limit)
 AreInRange (inputs.Plain plain) = Unit {0}
 AreInRange (inputs.Listing dna count) = length dna ≤ most_bytes
+AreInRange (inputs.Text verb text) = IsTextInRange verb × (length text ≤ most_bytes)

@@ -1,6 +1,6 @@
 -- Where in a call a status is decided.
 use Rattle.fuun_top.specs.declared.status.Status.{Status}
-use Rattle.fuun_top.specs.declared.status.Status.TheVariants.{Done, Usage, OutOfBudget, TooLong, BadBase, BadRna, InputTooLong, ReadFault, WriteFault, NoMemory, StartTooLong}
+use Rattle.fuun_top.specs.declared.status.Status.TheVariants.{Done, Usage, OutOfBudget, TooLong, BadBase, BadRna, BadToml, BadPatch, Outside, InputTooLong, ReadFault, WriteFault, NoMemory, StartTooLong}
 
 -- the words, the reading of a file, what a file holds, the output that is defined, its writing; memory is wanted anywhere
 pub data Stage : Type 0 where
@@ -19,6 +19,9 @@ stage_of OutOfBudget = ByOutput
 stage_of (TooLong attempt) = ByOutput
 stage_of (BadBase file place) = ByContents
 stage_of (BadRna line) = ByContents
+stage_of BadToml = ByContents
+stage_of (BadPatch number) = ByContents
+stage_of (Outside number) = ByContents
 stage_of (InputTooLong file) = ByReading
 stage_of ReadFault = ByReading
 stage_of WriteFault = ByWriting
@@ -42,6 +45,24 @@ IsOfInputs ByContents = Unit {0}
 IsOfInputs ByOutput = ⊥
 IsOfInputs ByWriting = ⊥
 IsOfInputs ByMemory = Unit {0}
+
+-- an output may end so: with what is asked for, or with a refusal of a file's text
+abbrev pub IsOfOutput : Stage → Type 0
+IsOfOutput ByWords = ⊥
+IsOfOutput ByReading = ⊥
+IsOfOutput ByContents = Unit {0}
+IsOfOutput ByOutput = Unit {0}
+IsOfOutput ByWriting = ⊥
+IsOfOutput ByMemory = Unit {0}
+
+-- and the writing of one
+abbrev pub IsAfterReading : Stage → Type 0
+IsAfterReading ByWords = ⊥
+IsAfterReading ByReading = ⊥
+IsAfterReading ByContents = Unit {0}
+IsAfterReading ByOutput = Unit {0}
+IsAfterReading ByWriting = Unit {0}
+IsAfterReading ByMemory = Unit {0}
 
 -- a status with which no byte is written
 abbrev pub IsRefusal : Status → Type 0

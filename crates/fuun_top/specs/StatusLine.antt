@@ -3,7 +3,7 @@ use Rattle.std.specs.Prelude.{ℕ, List, [], ◌∷◌, ◌++◌, codes, decimal
 use Rattle.fuun_top.specs.declared.status.InFile.{InFile}
 use Rattle.fuun_top.specs.declared.status.InFile.TheVariants.{Dna, Prefix, Rna, Patch}
 use Rattle.fuun_top.specs.declared.status.Status.{Status}
-use Rattle.fuun_top.specs.declared.status.Status.TheVariants.{Done, Usage, OutOfBudget, TooLong, BadBase, BadRna, InputTooLong, ReadFault, WriteFault, NoMemory, StartTooLong}
+use Rattle.fuun_top.specs.declared.status.Status.TheVariants.{Done, Usage, OutOfBudget, TooLong, BadBase, BadRna, BadToml, BadPatch, Outside, InputTooLong, ReadFault, WriteFault, NoMemory, StartTooLong}
 
 -- the name of a file that the words name
 abbrev pub file_name : InFile → List ℕ
@@ -20,6 +20,9 @@ number_of OutOfBudget = 3
 number_of (TooLong attempt) = 4
 number_of (BadBase file place) = 5
 number_of (BadRna line) = 6
+number_of BadToml = 7
+number_of (BadPatch number) = 8
+number_of (Outside number) = 9
 number_of (InputTooLong file) = 10
 number_of ReadFault = 11
 number_of WriteFault = 12
@@ -38,6 +41,9 @@ status_line OutOfBudget = line (codes "out of budget")
 status_line (TooLong attempt) = line (codes "too long at attempt " ++ decimal attempt)
 status_line (BadBase file place) = line (file_name file ++ codes ": byte " ++ decimal place ++ codes " is not a base")
 status_line (BadRna number) = line (codes "rna: line " ++ decimal number ++ codes " is not a command")
+status_line BadToml = line (codes "patch: not a TOML document")
+status_line (BadPatch number) = line (codes "patch: row " ++ decimal number ++ codes " is refused")
+status_line (Outside number) = line (codes "patch: row " ++ decimal number ++ codes " is outside the length")
 status_line (InputTooLong file) = line (file_name file ++ codes ": too long")
 status_line ReadFault = line (codes "read fault")
 status_line WriteFault = line (codes "write fault")

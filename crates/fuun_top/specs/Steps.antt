@@ -31,6 +31,7 @@ InputsTick (inputs.Run verb dna budget limit) old new = RunTicks dna budget limi
 InputsTick (inputs.Trace dna budget limit) old new = RunTicks dna budget limit old new
 InputsTick (inputs.Plain plain) old new = new ≡ old
 InputsTick (inputs.Listing dna count) old new = Ticks old new (start_steps (length dna))
+InputsTick (inputs.Text verb text) old new = new ≡ old
 
 -- nor where the inputs are refused
 abbrev pub ReadingTicks : Reading Inputs → ℕ → ℕ → Type 0

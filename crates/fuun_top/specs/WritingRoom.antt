@@ -1,5 +1,5 @@
 -- What each function that writes promises.
-use Rattle.std.specs.Prelude.{◌≡◌, ℕ, false, Option, Result, Ok, Err, List}
+use Rattle.std.specs.Prelude.{◌≡◌, ◌⊎◌, ℕ, false, Option, Result, Ok, Err, List}
 use Rattle.fuun_base.specs.declared.letters.Base.{Base}
 use Rattle.fuun_io.specs.Counts.{Rose}
 use Rattle.fuun_io.specs.Written.{appended, PutsFront}
@@ -21,6 +21,10 @@ pub data Wrote (Is : Output → Type 0) (result : Status) (old new : Option (Lis
   CutOff : (output : Output) → Is output → result ≡ WriteFault → PutsFront old new output.bytes → Rose faults_old faults_new → Wrote Is result old new faults_old faults_new
   SpentRoom : (output : Output) → Is output → result ≡ NoMemory → PutsFront old new output.bytes → faults_new ≡ faults_old → Wrote Is result old new faults_old faults_new
   NoRoom : result ≡ NoMemory → new ≡ old → faults_new ≡ faults_old → Wrote Is result old new faults_old faults_new
+
+-- a value or a refusal is one that is made so, or memory was wanted
+abbrev pub Makes : {A : Type 0} → (Result A Status → Type 0) → Result A Status → Type 0
+Makes Is result = Is result ⊎ (result ≡ Err NoMemory)
 
 -- the run of a DNA had this end, and its RNA builds this picture
 pub record DrewRun (side most : ℕ) (profile : Profile) (dna : List Base) (budget limit : ℕ) (end : RunEnd) (picture : Picture) : Type 0 where

@@ -1,12 +1,11 @@
 // Files, read whole and judged.
-ghost use Rattle.std.specs.Prelude.{◌≡◌, ◌≤◌, ◌∷◌, [], length, vec_len, IfOk, IsTrue};
-ghost use Rattle.std.specs.Result.{result_map_both};
+ghost use Rattle.std.specs.Prelude.{◌≡◌, ◌≤◌, ◌∷◌, [], length, IfOk, IsTrue};
 ghost use Rattle.fuun_top.specs.Answer.{AreAllowed};
 ghost use Rattle.fuun_top.specs.Reading.{bytes_in, dna_in, judged_dna, judged_rna, most_bytes, prefix_files, prefix_in, rna_in};
 ghost use Rattle.fuun_top.specs.ReadingRoom.{Judges, Reads};
 
 use crate::{InFile, Status};
-use fuun_base::{BaseList, CommandList, DnaError, RnaError, read_dna, read_rna};
+use fuun_base::{BaseList, CommandList, DnaError, List, RnaError, read_dna, read_rna};
 use fuun_io::{Folder, ReadError, read_all};
 use fuun_words::Name;
 use std::alloc::Global;
@@ -15,22 +14,21 @@ use std::alloc::Global;
 const MOST_BYTES: u64 = 1 << 26;
 
 /// The bytes of a file, at most 2^26 of them. Each read of the crate goes through here.
-fn file_bytes<F: Folder>(
+pub(crate) fn file_bytes<F: Folder>(
     alloc: Global,
     folder: &mut F,
     name: &str,
     file: InFile,
-) -> Result<Vec<u8>, Status>
+) -> Result<List<u8>, Status>
     requires { IsTrue (F.allows folder.old name.now) }
-    ensures most { IfOk result (λ bytes. vec_len bytes ≤ most_bytes) }
+    ensures most { IfOk result (λ bytes. length bytes ≤ most_bytes) }
     ensures reads { Reads (F.contents folder.old) (name.now ∷ []) (bytes_in (F.contents folder.old) file name.now)
-        (result_map_both (λ bytes. bytes.items) (λ status. status) result)
-        (F.given folder.old) (F.given folder.new) (F.faults folder.old) (F.faults folder.new) }
+        result (F.given folder.old) (F.given folder.new) (F.faults folder.old) (F.faults folder.new) }
     ensures same_contents { F.contents folder.new ≡ F.contents folder.old }
     ensures same_names { F.allows folder.new ≡ F.allows folder.old }
 {
     match read_all(alloc, folder, name, MOST_BYTES) {
-        Ok(bytes) => Ok(bytes),
+        Ok(bytes) => Ok(List::from_vec(bytes)),
         Err(ReadError::ReadFault) => Err(Status::ReadFault),
         Err(ReadError::InputTooLong) => Err(Status::InputTooLong { file }),
         Err(ReadError::NoMemory) => Err(Status::NoMemory),
@@ -75,7 +73,7 @@ pub(crate) fn dna_file<F: Folder>(
     ensures same_names { F.allows folder.new ≡ F.allows folder.old }
 {
     match file_bytes(alloc, folder, name, file) {
-        Ok(bytes) => judge_dna(alloc, file, &bytes),
+        Ok(bytes) => judge_dna(alloc, file, bytes.as_slice()),
         Err(status) => Err(status),
     }
 }
@@ -112,7 +110,7 @@ pub(crate) fn rna_file<F: Folder>(
     ensures same_names { F.allows folder.new ≡ F.allows folder.old }
 {
     match file_bytes(alloc, folder, name, InFile::Rna) {
-        Ok(bytes) => judge_rna(alloc, &bytes),
+        Ok(bytes) => judge_rna(alloc, bytes.as_slice()),
         Err(status) => Err(status),
     }
 }

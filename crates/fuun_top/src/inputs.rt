@@ -1,14 +1,14 @@
 // The reading room: from a request to its inputs.
 ghost use Rattle.std.specs.Prelude.{◌≡◌, ◌≤◌, ◌++◌, length, IfOk};
 ghost use Rattle.fuun_top.specs.Answer.{AreAllowed};
-ghost use Rattle.fuun_top.specs.declared.request.Asked.TheVariants.{Run, Trace, Rna, Listing};
+ghost use Rattle.fuun_top.specs.declared.request.Asked.TheVariants.{Run, Trace, Rna, Listing, Text};
 ghost use Rattle.fuun_top.specs.Reading.{files_of, inputs_of, run_files, start_in, started};
 ghost use Rattle.fuun_top.specs.ReadingRoom.{AreInRange, IsInRange, Judges, Reads};
 
-use crate::files::{dna_file, prefix_file, rna_file};
-use crate::request::{Asked, RnaVerb, RunVerb};
+use crate::files::{dna_file, file_bytes, prefix_file, rna_file};
+use crate::request::{Asked, RnaVerb, RunVerb, TextVerb};
 use crate::{InFile, Status};
-use fuun_base::{BaseList, CommandList, NoMemory};
+use fuun_base::{BaseList, CommandList, List, NoMemory};
 use fuun_io::Folder;
 use fuun_words::RunWords;
 use std::alloc::Global;
@@ -34,6 +34,11 @@ pub(crate) enum Inputs {
     Listing {
         dna: BaseList,
         count: u64,
+    },
+    /// The bytes of a text that DNA is made of.
+    Text {
+        verb: TextVerb,
+        text: List<u8>,
     },
 }
 
@@ -61,6 +66,7 @@ pub(crate) fn read_inputs<F: Folder>(
         Asked::Trace(words) => read_traced(alloc, folder, words),
         Asked::Rna(verb, name) => read_commands(alloc, folder, *verb, name.as_str()),
         Asked::Listing(name, count) => read_listed(alloc, folder, name.as_str(), *count),
+        Asked::Text(verb, name) => read_text(alloc, folder, *verb, name.as_str()),
     }
 }
 
@@ -188,6 +194,26 @@ fn read_listed<F: Folder>(
 {
     match dna_file(alloc, folder, name, InFile::Dna) {
         Ok(dna) => Ok(Inputs::Listing { dna, count }),
+        Err(status) => Err(status),
+    }
+}
+
+/// Reads the file of whose text DNA is made. It is judged when that is made.
+fn read_text<F: Folder>(
+    alloc: Global,
+    folder: &mut F,
+    verb: TextVerb,
+    name: &str,
+) -> Result<Inputs, Status>
+    requires allowed { AreAllowed (F.allows folder.old) (files_of (Text verb name.now)) }
+    requires in_range { IsInRange (Text verb name.now) }
+    ensures reads { Reads (F.contents folder.old) (files_of (Text verb name.now))
+        (inputs_of (F.contents folder.old) (Text verb name.now))
+        result (F.given folder.old) (F.given folder.new) (F.faults folder.old) (F.faults folder.new) }
+    ensures in_range { IfOk result AreInRange }
+{
+    match file_bytes(alloc, folder, name, verb.file()) {
+        Ok(text) => Ok(Inputs::Text { verb, text }),
         Err(status) => Err(status),
     }
 }

@@ -6,6 +6,7 @@ mod inputs;
 pub mod laws;
 mod letters;
 mod listed;
+mod making;
 mod output;
 mod pictures;
 mod request;

@@ -10,6 +10,7 @@ ghost use Rattle.fuun_top.specs.WritingRoom.{Wrote, status_after};
 use crate::Status;
 use crate::inputs::{Inputs, Plain};
 use crate::listed::put_listing;
+use crate::making::put_text;
 use crate::pictures::put_drawing;
 use crate::request::{RnaVerb, RunVerb};
 use crate::running::{machine_on, put_made};
@@ -42,6 +43,7 @@ pub(crate) fn put_output<S: Sink, L: Ledger>(
         Inputs::Trace { dna, budget, limit } => put_trace(alloc, dna, budget, limit, out, steps),
         Inputs::Plain(plain) => put_plain(alloc, &plain, out),
         Inputs::Listing { dna, count } => put_listing(alloc, dna, count, out, steps),
+        Inputs::Text { verb, text } => put_text(alloc, verb, &text, out),
     }
 }
 

@@ -1,8 +1,10 @@
 ghost use Rattle.std.specs.Prelude.{◌≡◌};
 ghost use Rattle.fuun_top.specs.Asked.{sorted};
+ghost use Rattle.fuun_top.specs.Reading.{text_file};
 ghost use Rattle.fuun_top.specs.ReadingRoom.{IsInRange};
 ghost use Rattle.fuun_words.specs.Requests.{IsInRange as IsRequestInRange};
 
+use crate::InFile;
 use fuun_words::{Name, Request, RunWords};
 use rna_code::Profile;
 
@@ -26,6 +28,24 @@ pub(crate) enum RnaVerb {
     Names(Profile),
 }
 
+/// What DNA is made of the text of a file.
+#[derive(Clone, Copy, Debug)]
+pub(crate) enum TextVerb {
+    /// The prefix of a patch file, of at most so many bases.
+    Patch { limit: u64 },
+}
+
+impl TextVerb {
+    /// What the file is called.
+    pub(crate) fn file(self) -> InFile
+        ensures { result ≡ text_file self }
+    {
+        match self {
+            TextVerb::Patch { .. } => InFile::Patch,
+        }
+    }
+}
+
 /// What is asked for, by what it works on.
 #[derive(Debug, Drop)]
 pub(crate) enum Asked {
@@ -37,6 +57,8 @@ pub(crate) enum Asked {
     Rna(RnaVerb, Name),
     /// The listing of a DNA file, by its name: at most so many pairs.
     Listing(Name, u64),
+    /// The DNA that is made of a text, by its file's name.
+    Text(TextVerb, Name),
 }
 
 /// Sorts a request by what it works on.
@@ -53,5 +75,6 @@ pub(crate) fn sorted(request: Request) -> Asked
         Request::Draw { rna, profile } => Asked::Rna(RnaVerb::Draw(profile), rna),
         Request::Names { rna, profile } => Asked::Rna(RnaVerb::Names(profile), rna),
         Request::List { dna, count } => Asked::Listing(dna, count),
+        Request::Patch { file, limit } => Asked::Text(TextVerb::Patch { limit }, file),
     }
 }

@@ -30,6 +30,12 @@ pub enum Status {
     BadBase { file: InFile, place: u64 },
     /// This line of the RNA file, counted from 1, is no command.
     BadRna { line: u64 },
+    /// The patch file is no TOML document.
+    BadToml,
+    /// This row of the patch file, counted from 1, is refused; 0 is the heading.
+    BadPatch { index: u64 },
+    /// This row of the patch file, counted from 1, is the first that does not fit the DNA that those before it leave.
+    Outside { index: u64 },
     /// The file has more than 2^26 bytes.
     InputTooLong { file: InFile },
     /// A file could not be read.
@@ -67,6 +73,9 @@ impl Status {
             Status::TooLong { .. } => 4,
             Status::BadBase { .. } => 5,
             Status::BadRna { .. } => 6,
+            Status::BadToml => 7,
+            Status::BadPatch { .. } => 8,
+            Status::Outside { .. } => 9,
             Status::InputTooLong { .. } => 10,
             Status::ReadFault => 11,
             Status::WriteFault => 12,
@@ -87,7 +96,12 @@ pub fn put_status<S: Sink>(status: &Status, sink: &mut S) -> Result<(), WriteFau
         Status::OutOfBudget => put_pieces(sink, &[b"fuun: out of budget\n"]),
         Status::TooLong { attempt } => put_too_long(sink, attempt),
         Status::BadBase { file, place } => put_bad_base(sink, file, place),
-        Status::BadRna { line } => put_bad_rna(sink, line),
+        Status::BadRna { line } => { put_numbered(sink, b"rna: line ", line, b" is not a command") }
+        Status::BadToml => put_pieces(sink, &[b"fuun: ", b"patch: not a TOML document", b"\n"]),
+        Status::BadPatch { index } => put_numbered(sink, b"patch: row ", index, b" is refused"),
+        Status::Outside { index } => {
+            put_numbered(sink, b"patch: row ", index, b" is outside the length")
+        }
         Status::InputTooLong { file } => put_pieces(
             sink,
             &[b"fuun: ", file.name().as_bytes(), b": too long\n"],
@@ -133,9 +147,14 @@ fn put_bad_base<S: Sink>(sink: &mut S, file: InFile, place: u64) -> Result<(), W
     )
 }
 
-fn put_bad_rna<S: Sink>(sink: &mut S, number: u64) -> Result<(), WriteFault>
-    ensures puts { Puts result (S.bytes sink.old) (S.bytes sink.new)
-        (line (codes "rna: line " ++ decimal number ++ codes " is not a command")) }
+// Writes a line that tells a number between two texts.
+fn put_numbered<S: Sink>(
+    sink: &mut S,
+    before: &[u8],
+    number: u64,
+    after: &[u8],
+) -> Result<(), WriteFault>
+    ensures puts { Puts result (S.bytes sink.old) (S.bytes sink.new) (line (before.now ++ decimal number ++ after.now)) }
     ensures cause { HasCause (S.faults sink.old) (S.faults sink.new) result }
 {
     let mut buffer = Buffer::new();
@@ -143,9 +162,10 @@ fn put_bad_rna<S: Sink>(sink: &mut S, number: u64) -> Result<(), WriteFault>
         sink,
         &[
             b"fuun: ",
-            b"rna: line ",
+            before,
             buffer.format(number).as_bytes(),
-            b" is not a command\n",
+            after,
+            b"\n",
         ],
     )
 }

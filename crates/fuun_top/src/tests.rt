@@ -34,10 +34,27 @@ fn expect<L: Ledger>(
     requires parts { blank.parts ≡ L.parts }
     requires some { 0 < L.parts }
 {
+    expect_with::<L>(rt, alloc, blank, words, [file, PREFIX], status, bytes)
+}
+
+/// Asks for the words over the files `a` and `p`, and compares the status and the bytes.
+fn expect_with<L: Ledger>(
+    rt: &impl Abort,
+    alloc: Global,
+    blank: Blank,
+    words: &[String],
+    files: [&[u8]; 2],
+    status: Status,
+    bytes: &[u8],
+) -> Result<(), Fail>
+    requires name { blank.name ≡ L.name }
+    requires parts { blank.parts ≡ L.parts }
+    requires some { 0 < L.parts }
+{
     let mut steps = Steps::<L>::new(blank);
     let mut folder = MemFolder::new(alloc);
-    folder.add("a", file)?;
-    folder.add("p", PREFIX)?;
+    folder.add("a", files[0])?;
+    folder.add("p", files[1])?;
     let mut sink = MemSink::with_room(alloc, 4096)?;
     let answer = fuun(alloc, words, &mut folder, &mut sink, &mut steps);
     assert_eq!(rt; answer, status);
@@ -239,6 +256,146 @@ fn traces_of_small_files(rt: HostRuntime) -> Result<(), Fail> {
     Ok(())
 }
 
+/// The base at 2 of four is cut, and II is put.
+const EDIT: &[u8] = b"version = 1\nlength = 4\n\n[[patch]]\nat = 2\ncut = 1\nput = \"II\"\n";
+
+/// The first base of two is cut, and then P is put before what is left.
+const EDITS: &[u8] =
+    b"version = 1\nlength = 2\n[[patch]]\nat = 0\ncut = 1\nput = \"\"\n[[patch]]\nat = 0\ncut = 0\nput = \"P\"\n";
+
+/// The first base of four goes to the end.
+const MOVE: &[u8] = b"version = 2\nlength = 4\n[[patch]]\nmove = 0\ncount = 1\nto = 3\n";
+
+/// The two bases in the middle of four are put once more before the last of them.
+const COPY: &[u8] = b"version = 2\nlength = 4\n[[patch]]\ncopy = 1\ncount = 2\nto = 2\n";
+
+#[test]
+fn patches_of_small_files(rt: HostRuntime) -> Result<(), Fail> {
+    let nothing = b"".as_slice();
+    let one = b"IIPIPICPIICIPCPIICIFPPCCIIC\n".as_slice();
+    let outside = Status::Outside { index: 1 };
+    let bad = |index| Status::BadPatch { index };
+    for (line, file, status, bytes) in [
+        ("patch --file a", EDIT, Status::Done, one),
+        ("patch --file a --limit 27", EDIT, Status::Done, one),
+        (
+            "patch --limit=26 --file a",
+            EDIT,
+            Status::TooLong { attempt: 0 },
+            nothing,
+        ),
+        (
+            "patch --file a",
+            b"version = 1\nlength = 4\n",
+            Status::Done,
+            b"\n",
+        ),
+        (
+            "patch --file a",
+            b"version = 1\nlength = 4\npatch = [{ at = 4, cut = 0, put = \"\" }]\n",
+            Status::Done,
+            b"IIPIPIICPIICIPPIICIFPPIIC\n",
+        ),
+        (
+            "patch --file a --limit 1",
+            b"version = 1\nlength = 4\npatch = [{ at = 4, cut = 1, put = \"\" }]\n",
+            outside,
+            nothing,
+        ),
+        (
+            "patch --file a",
+            b"version = 2\nlength = 4\npatch = [{ move = 1, count = 2, to = 3 }]\n",
+            outside,
+            nothing,
+        ),
+        ("patch --file a", b"length = ", Status::BadToml, nothing),
+        (
+            "patch --file a",
+            b"version = 3\nlength = 4\n",
+            bad(0),
+            nothing,
+        ),
+        (
+            "patch --file a",
+            b"version = 1\nlength = 4\nnote = 1\n",
+            bad(0),
+            nothing,
+        ),
+        (
+            "patch --file a",
+            b"version = 1\nlength = 4\npatch = [{ copy = 1, count = 2, to = 2 }]\n",
+            bad(1),
+            nothing,
+        ),
+        (
+            "patch --file a",
+            b"version = 1\nlength = 4\npatch = [{ at = 9, cut = -1, put = \"\" }]\n",
+            bad(1),
+            nothing,
+        ),
+        (
+            "patch --file a",
+            b"version = 1\nlength = 4\npatch = [{ at = 9, cut = 0, put = \"\" }, { at = 0, cut = 0, put = \"IX\" }]\n",
+            bad(2),
+            nothing,
+        ),
+        ("patch --file unknown", EDIT, Status::ReadFault, nothing),
+    ] {
+        let words = words(rt.alloc(), line)?;
+        expect::<Brand>(&rt, rt.alloc(), Blank::new(1), &words, file, status, bytes)?;
+    }
+    Ok(())
+}
+
+#[test]
+fn prefixes_carry_patches_out(rt: HostRuntime) -> Result<(), Fail> {
+    let nothing = b"".as_slice();
+    let bases = b"CFPC".as_slice();
+    let prefix = b"IIPIPICPIICIPCPIICIFPPCCIIC\n".as_slice();
+    let twice = b"IIPIPIIICCPIICIPCPIICIFPPIICIIPIPPIICIPPIICIFPPICIIC\n".as_slice();
+    let moved = b"IIPIPPIICIIPIPCPIICIIPIPCCPIICIICIFPPIFPICPIFPCPIIC\n".as_slice();
+    let copied = b"IIPIPCPIICIIPIPCPIICIIPIPCPIICIICIFPPIFPCPIFPCPIFPICPIFPICPIIC\n".as_slice();
+    for (line, files, status, bytes) in [
+        ("patch --file a", [EDITS, nothing], Status::Done, twice),
+        ("patch --file a", [MOVE, nothing], Status::Done, moved),
+        ("patch --file a", [COPY, nothing], Status::Done, copied),
+        (
+            "dna --dna a --prefix p --budget 1",
+            [bases, prefix],
+            Status::Done,
+            b"CFIIC\n",
+        ),
+        (
+            "rna --dna a --prefix p --budget 1",
+            [bases, prefix],
+            Status::OutOfBudget,
+            nothing,
+        ),
+        (
+            "dna --dna a --prefix p --budget 2",
+            [b"CF", twice],
+            Status::Done,
+            b"PF\n",
+        ),
+        (
+            "dna --dna a --prefix p --budget 1",
+            [bases, moved],
+            Status::Done,
+            b"FPCC\n",
+        ),
+        (
+            "dna --dna a --prefix p --budget 1",
+            [bases, copied],
+            Status::Done,
+            b"CFFPPC\n",
+        ),
+    ] {
+        let words = words(rt.alloc(), line)?;
+        expect_with::<Brand>(&rt, rt.alloc(), Blank::new(1), &words, files, status, bytes)?;
+    }
+    Ok(())
+}
+
 #[test]
 fn limits_are_kept(rt: HostRuntime) -> Result<(), Fail> {
     let whole = b"IIPIPIIICPIICIICIFPPIFPPIFPPIFPPIFPPIFPPIFPPIICCCCCCCCC\n".as_slice();
@@ -368,6 +525,21 @@ fn statuses_have_their_lines(rt: HostRuntime) -> Result<(), Fail> {
             Status::BadRna { line: 12 },
             6,
             b"fuun: rna: line 12 is not a command\n".as_slice(),
+        ),
+        (
+            Status::BadToml,
+            7,
+            b"fuun: patch: not a TOML document\n".as_slice(),
+        ),
+        (
+            Status::BadPatch { index: 0 },
+            8,
+            b"fuun: patch: row 0 is refused\n".as_slice(),
+        ),
+        (
+            Status::Outside { index: 23 },
+            9,
+            b"fuun: patch: row 23 is outside the length\n".as_slice(),
         ),
         (
             Status::InputTooLong {

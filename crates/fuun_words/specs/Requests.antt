@@ -11,7 +11,7 @@ use Rattle.fuun_words.specs.declared.request.RunWords.{RunWords}
 use Rattle.fuun_words.specs.declared.request.WordsError.{WordsError}
 use Rattle.fuun_words.specs.declared.request.WordsError.TheVariants.{Usage}
 use Rattle.fuun_words.specs.declared.verb.Verb.{Verb}
-use Rattle.fuun_words.specs.declared.verb.Verb.TheVariants.{Rna, Image, Trace, Dna, Draw, Names, List as Pairs}
+use Rattle.fuun_words.specs.declared.verb.Verb.TheVariants.{Rna, Image, Trace, Dna, Draw, Names, List as Pairs, Patch}
 
 -- the texts of words
 abbrev pub texts : {Z : Type 0} → List (String Z) → List (List ℕ)
@@ -56,6 +56,7 @@ request_of Dna rows = option_map asked.Dna (run_of rows)
 request_of Draw rows = both asked.Draw (first_of (codes "rna") rows) (profile_of rows)
 request_of Names rows = both asked.Names (first_of (codes "rna") rows) (profile_of rows)
 request_of Pairs rows = both asked.List (first_of (codes "dna") rows) (number_of (codes "count") (2 ^ 40) rows)
+request_of Patch rows = both asked.Patch (first_of (codes "file") rows) (limit_of rows)
 
 -- what words ask for: nothing where they are in no form that a verb has
 abbrev pub request : List Text → Option Request
@@ -82,3 +83,4 @@ IsInRange (asked.Dna run) = IsRunInRange run
 IsInRange (asked.Draw rna profile) = Unit {0}
 IsInRange (asked.Names rna profile) = Unit {0}
 IsInRange (asked.List dna count) = count ≤ 2 ^ 40
+IsInRange (asked.Patch file limit) = (1 ≤ limit) × (limit ≤ 2 ^ 40)

@@ -5,7 +5,7 @@ use Rattle.clap.specs.Walk.{Text}
 use Rattle.fuun_words.specs.Commands.{VerbOption}
 use Rattle.fuun_words.specs.declared.verb.Need.TheVariants.{Required, Optional}
 use Rattle.fuun_words.specs.declared.verb.Verb.{Verb}
-use Rattle.fuun_words.specs.declared.verb.Verb.TheVariants.{Rna, Image, Trace, Dna, Draw, Names, List as Pairs}
+use Rattle.fuun_words.specs.declared.verb.Verb.TheVariants.{Rna, Image, Trace, Dna, Draw, Names, List as Pairs, Patch}
 
 -- the verbs by their names
 abbrev pub verbs : List (Text × Verb)
@@ -17,6 +17,7 @@ verbs =
     ∷ (codes "draw", Draw)
     ∷ (codes "names", Names)
     ∷ (codes "list", Pairs)
+    ∷ (codes "patch", Patch)
     ∷ []
 
 -- the verb of this name
@@ -38,3 +39,4 @@ options_of Dna = run_options
 options_of Draw = (codes "rna", Required) ∷ (codes "profile", Optional) ∷ []
 options_of Names = (codes "rna", Required) ∷ (codes "profile", Optional) ∷ []
 options_of Pairs = (codes "dna", Required) ∷ (codes "count", Required) ∷ []
+options_of Patch = (codes "file", Required) ∷ (codes "limit", Optional) ∷ []

@@ -57,6 +57,10 @@ fn request_from(alloc: Global, verb: Verb, matches: &ArgMatches<'_>) -> Result<R
             dna: required_name(alloc, matches, "dna")?,
             count: required_number(matches, "count", MOST)?,
         }),
+        Verb::Patch => Ok(Request::Patch {
+            file: required_name(alloc, matches, "file")?,
+            limit: limit(matches)?,
+        }),
     }
 }
 

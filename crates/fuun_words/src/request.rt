@@ -36,6 +36,8 @@ pub enum Request {
     Names { rna: Name, profile: Profile },
     /// Patterns and templates that a DNA file holds one after another, at most `count` pairs: from 0 to 2^40.
     List { dna: Name, count: u64 },
+    /// The prefix that a patch file compiles to, of at most `limit` bases: from 1 to 2^40.
+    Patch { file: Name, limit: u64 },
 }
 
 /// Why words give no request.

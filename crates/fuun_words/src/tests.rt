@@ -47,6 +47,14 @@ fn words_ask(rt: HostRuntime) -> Result<(), Fail> {
             r#"List { dna: Name { text: "a" }, count: 7 }"#,
         ),
         (
+            "patch --file p",
+            r#"Patch { file: Name { text: "p" }, limit: 67108864 }"#,
+        ),
+        (
+            "patch --limit=01 --file=p",
+            r#"Patch { file: Name { text: "p" }, limit: 1 }"#,
+        ),
+        (
             "trace --dna a --budget=1",
             r#"Trace(RunWords { dna: Name { text: "a" }, prefix: None, budget: 1, limit: 67108864 })"#,
         ),
@@ -91,6 +99,11 @@ fn other_words_are_refused(rt: HostRuntime) -> Result<(), Fail> {
         "list --dna a",
         "list --dna a --count 1099511627777",
         "trace --dna a --profile plain",
+        "patch",
+        "patch --dna a",
+        "patch --file p --limit 0",
+        "patch --file p --limit 1099511627777",
+        "patch --file p --budget 1",
     ] {
         assert!(rt;
             matches!(asked(alloc, line)?, Err(WordsError::Usage)),

@@ -13,6 +13,7 @@ pub(crate) enum Verb {
     Draw,
     Names,
     List,
+    Patch,
 }
 
 /// Whether a verb asks for an option.
@@ -44,6 +45,8 @@ static DRAW: [VerbOption; 2] = [("rna", Need::Required), ("profile", Need::Optio
 
 static LIST: [VerbOption; 2] = [("dna", Need::Required), ("count", Need::Required)];
 
+static PATCH: [VerbOption; 2] = [("file", Need::Required), ("limit", Need::Optional)];
+
 impl Verb {
     /// The verb of this name.
     pub(crate) fn of(word: &str) -> Option<Verb>
@@ -57,6 +60,7 @@ impl Verb {
             "draw" => Some(Verb::Draw),
             "names" => Some(Verb::Names),
             "list" => Some(Verb::List),
+            "patch" => Some(Verb::Patch),
             _ => None,
         }
     }
@@ -70,6 +74,7 @@ impl Verb {
             Verb::Image => IMAGE.as_slice(),
             Verb::Draw | Verb::Names => DRAW.as_slice(),
             Verb::List => LIST.as_slice(),
+            Verb::Patch => PATCH.as_slice(),
         }
     }
 }

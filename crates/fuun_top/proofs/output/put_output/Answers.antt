@@ -20,3 +20,6 @@ returns-in-Trace-clause-wrote g c = rw c.in-Trace.is c.put_trace.ensures.wrote
 
 pub returns-in-Trace-clause-ticks : goal.returns-in-Trace-clause-ticks
 returns-in-Trace-clause-ticks g c = rw c.in-Trace.is c.put_trace.ensures.ticks
+
+pub returns-in-Text-clause-wrote : goal.returns-in-Text-clause-wrote
+returns-in-Text-clause-wrote g c = rw c.in-Text.is c.put_text.ensures

@@ -1,0 +1,80 @@
+-- Where the status of an output is decided.
+use Rattle.std.proofs.Common.{◌≡◌, ◌⊎◌, inl, inr, ℕ, Bool, true, false, Result, Ok, Err, List, [], refl, sym, ap, ◌∙◌, subst}
+use Rattle.std.specs.Prelude.{IfErr}
+use Rattle.fuun_base.specs.declared.letters.Base.{Base}
+use Rattle.exec_loop.specs.declared.machine.RunEnd.{RunEnd}
+use Rattle.exec_loop.specs.declared.machine.RunEnd.TheVariants as end
+use Rattle.patch_text.specs.declared.read.PatchError.{PatchError}
+use Rattle.patch_text.specs.declared.read.PatchError.TheVariants as patch
+use Rattle.patch_text.specs.Meaning.{patches}
+use Rattle.patch_compile.specs.declared.compiling.CompileError.{CompileError}
+use Rattle.patch_compile.specs.declared.compiling.CompileError.TheVariants as compile
+use Rattle.patch_compile.specs.Compiled.{compiled}
+use Rattle.fuun_top.specs.declared.inputs.Inputs.{Inputs}
+use Rattle.fuun_top.specs.declared.inputs.Inputs.TheVariants as inputs
+use Rattle.fuun_top.specs.declared.request.TextVerb.{TextVerb}
+use Rattle.fuun_top.specs.declared.request.TextVerb.TheVariants as texts
+use Rattle.fuun_top.specs.declared.status.Status.{Status}
+use Rattle.fuun_top.specs.declared.status.Status.TheVariants.{Done}
+use Rattle.fuun_top.specs.Making.{IsMade, compile_refusal, patch_refusal, told, then_made}
+use Rattle.fuun_top.specs.Output.{Output, Body, Text, Drawing, IsBody, IsOutputOf, answered, plain_body, run_body, spent_is_done, status_by}
+use Rattle.fuun_top.specs.Stages.{ByOutput, IsOfOutput, stage_of}
+use Rattle.fuun_top.specs.Texts.{letters}
+
+-- a status is decided where output is, or it refuses what a file holds, and no byte is written
+abbrev pub IsTold : Output → Type 0
+IsTold output = (stage_of output.status ≡ ByOutput) ⊎ (IsOfOutput (stage_of output.status) × (output.bytes ≡ []))
+
+body_status : (status : Status) (body : Body) (output : Output) → IsBody status body output → output.status ≡ status
+body_status status (Text bytes) output is = ap (λ (o : Output). o.status) is
+body_status status (Drawing profile rna) output is = ap (λ (o : Output). o.status) is.is
+
+end_stage : (spent : Bool) (end : RunEnd) → stage_of (status_by spent end) ≡ ByOutput
+end_stage spent (end.Finished attempts) = refl
+end_stage true end.Budget = refl
+end_stage false end.Budget = refl
+end_stage spent (end.TooLong attempt) = refl
+
+-- what is made, or is refused by a status of that kind
+abbrev IsRefused : {A : Type 0} → Result A Status → Type 0
+IsRefused made = IfErr made (λ status. IsOfOutput (stage_of status))
+
+told_refused : {A E : Type 0} (status : E → Status) (result : Result A E) → ((error : E) → IsOfOutput (stage_of (status error))) → IsRefused (told status result)
+told_refused status (Ok value) each = tt
+told_refused status (Err error) each = each error
+
+then_refused : {A B : Type 0} (first : Result A Status) (next : A → Result B Status) → IsRefused first → ((value : A) → IsRefused (next value)) → IsRefused (then_made first next)
+then_refused (Ok value) next first each = each value
+then_refused (Err status) next first each = first
+
+patch_refused : (error : PatchError) → IsOfOutput (stage_of (patch_refusal error))
+patch_refused patch.BadToml = tt
+patch_refused (patch.BadPatch number) = tt
+patch_refused patch.NoMemory = tt
+
+compile_refused : (error : CompileError) → IsOfOutput (stage_of (compile_refusal error))
+compile_refused (compile.Outside number) = tt
+compile_refused compile.TooLong = tt
+compile_refused compile.NoMemory = tt
+
+-- a line for each verb
+made_refused : (verb : TextVerb) (text : List ℕ) (made : Result (List Base) Status) → IsMade verb text made → IsRefused made
+made_refused (texts.Patch limit) text made is =
+    subst IsRefused (sym is)
+    (then_refused (told patch_refusal (patches text)) _ (told_refused patch_refusal (patches text) patch_refused) (λ contents. told_refused compile_refusal (compiled contents limit) compile_refused))
+
+answer_told : {A : Type 0} (text : A → List ℕ) (made : Result A Status) (output : Output) → IsRefused made → output ≡ answered text made → IsTold output
+answer_told text (Ok value) output refused is = inl (ap (λ (o : Output). stage_of o.status) is)
+answer_told text (Err status) output refused is = inr (subst (λ (o : Output). IsOfOutput (stage_of o.status)) (sym is) refused, ap (λ (o : Output). o.bytes) is)
+
+pub output_told : (inputs : Inputs) (output : Output) → IsOutputOf inputs output → IsTold output
+output_told (inputs.Run verb dna budget limit) output is = inl (ap stage_of (body_status _ (run_body verb is.run) output is.writes) ∙ end_stage (spent_is_done verb) is.run.end)
+output_told (inputs.Trace dna budget limit) output is = inl (ap (λ (o : Output). stage_of o.status) is.tells ∙ end_stage false is.run.end)
+output_told (inputs.Plain plain) output is = inl (ap stage_of (body_status Done (plain_body plain) output is))
+output_told (inputs.Listing dna count) output is = inl (ap (λ (o : Output). stage_of o.status) is.is)
+output_told (inputs.Text verb text) output is = answer_told letters is.made output (made_refused verb text is.made is.is) is.tells
+
+-- the status of an output
+pub told_stage : (output : Output) → IsTold output → IsOfOutput (stage_of output.status)
+told_stage output (inl stage) = subst IsOfOutput (sym stage) tt
+told_stage output (inr told) = told.0

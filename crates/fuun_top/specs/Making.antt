@@ -1,0 +1,43 @@
+-- What DNA is made of the text of a file.
+use Rattle.std.specs.Prelude.{◌≡◌, ℕ, Result, Ok, Err, List}
+use Rattle.fuun_base.specs.declared.letters.Base.{Base}
+use Rattle.patch_text.specs.declared.read.PatchError.{PatchError}
+use Rattle.patch_text.specs.declared.read.PatchError.TheVariants as patch
+use Rattle.patch_text.specs.Meaning.{patches}
+use Rattle.patch_compile.specs.declared.compiling.CompileError.{CompileError}
+use Rattle.patch_compile.specs.declared.compiling.CompileError.TheVariants as compile
+use Rattle.patch_compile.specs.Compiled.{compiled}
+use Rattle.fuun_top.specs.declared.request.TextVerb.{TextVerb}
+use Rattle.fuun_top.specs.declared.request.TextVerb.TheVariants.{Patch}
+use Rattle.fuun_top.specs.declared.status.Status.{Status}
+use Rattle.fuun_top.specs.declared.status.Status.TheVariants.{TooLong, BadToml, BadPatch, Outside, NoMemory}
+
+-- a value, or the status that tells an error
+abbrev pub told : {A E : Type 0} → (E → Status) → Result A E → Result A Status
+told status (Ok value) = Ok value
+told status (Err error) = Err (status error)
+
+-- one value, and then another that may depend on it
+abbrev pub then_made : {A B : Type 0} → Result A Status → (A → Result B Status) → Result B Status
+then_made (Ok value) next = next value
+then_made (Err status) next = Err status
+
+-- why a text is no patch file
+abbrev pub patch_refusal : PatchError → Status
+patch_refusal patch.BadToml = BadToml
+patch_refusal (patch.BadPatch number) = BadPatch number
+patch_refusal patch.NoMemory = NoMemory
+
+-- why a patch file has no prefix
+abbrev pub compile_refusal : CompileError → Status
+compile_refusal (compile.Outside number) = Outside number
+compile_refusal compile.TooLong = TooLong 0
+compile_refusal compile.NoMemory = NoMemory
+
+-- the prefix that the text of a patch file compiles to, of at most so many bases
+abbrev pub patch_prefix : ℕ → List ℕ → Result (List Base) Status
+patch_prefix limit text = then_made (told patch_refusal (patches text)) (λ contents. told compile_refusal (compiled contents limit))
+
+-- the DNA that a verb makes of a text, or the status that refuses the text
+abbrev pub IsMade : TextVerb → List ℕ → Result (List Base) Status → Type 0
+IsMade (Patch limit) text made = made ≡ patch_prefix limit text
