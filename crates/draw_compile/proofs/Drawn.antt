@@ -162,6 +162,41 @@ module _ (side most : ℕ) (table : Table) (knows : Knows table) where
         others = λ u v in_x other. refl;
       }
 
+  -- the pixels of a run and of those behind it
+  row_pixels : (run : Run) (row : List Rgb) (x y stop : ℕ) (bitmap now : List Rgba)
+      → stop ≡ x + run.len → stop ≤ side → y < side → IsSquare side bitmap → ((k : ℕ) → k < run.len → get_or row k black ≡ run.pixel)
+      → ((u : ℕ) → u < stop → pixel_at side now u y ≡ pixel_at side (with_span side bitmap y x stop (opaque run.pixel)) u y)
+      → ((k : ℕ) → k < length (drop run.len row) → pixel_at side now (stop + k) y ≡ opaque (get_or (drop run.len row) k black))
+      → (k : ℕ) → k < length row → pixel_at side now (x + k) y ≡ opaque (get_or row k black)
+  row_pixels run row x y stop bitmap now is in_x in_y square all west behind k below =
+      elim (cases_lt k run.len) [
+        | inl within ↦
+            west (x + k) (omega arith)
+            ∙ pixel_at-with_span side bitmap y x stop (x + k) (opaque run.pixel) square in_y (omega arith) (omega arith) in_x
+            ∙ ap opaque (sym (all k within))
+        | inr past ↦
+            let j : ℕ = k - run.len in
+            let place : x + k ≡ stop + j = omega arith in
+            let from : run.len + j ≡ k = omega arith in
+            ap (λ n. pixel_at side now n y) place
+            ∙ behind j (omega (arith, length-drop run.len row))
+            ∙ ap opaque (get_or-drop run.len row j black ∙ ap (λ n. get_or row n black) from)
+      ]
+
+  -- the pixels west of a run
+  row_west : (run : Run) (x y stop : ℕ) (bitmap now : List Rgba) → stop ≤ side → y < side → IsSquare side bitmap → 1 ≤ run.len → stop ≡ x + run.len
+      → ((u : ℕ) → u < stop → pixel_at side now u y ≡ pixel_at side (with_span side bitmap y x stop (opaque run.pixel)) u y)
+      → (u : ℕ) → u < x → pixel_at side now u y ≡ pixel_at side bitmap u y
+  row_west run x y stop bitmap now in_x in_y square some is behind u before_x =
+      behind u (omega arith) ∙ pixel_at-with_span_other side bitmap y x stop u y (opaque run.pixel) square in_y (omega arith) in_x (omega arith) (λ same_row from to. omega arith)
+
+  -- the pixels of other rows
+  row_others : (run : Run) (x y stop : ℕ) (bitmap now : List Rgba) → stop ≤ side → y < side → IsSquare side bitmap → x ≤ stop
+      → ((u v : ℕ) → u < side → (v ≡ y → ⊥) → pixel_at side now u v ≡ pixel_at side (with_span side bitmap y x stop (opaque run.pixel)) u v)
+      → (u v : ℕ) → u < side → (v ≡ y → ⊥) → pixel_at side now u v ≡ pixel_at side bitmap u v
+  row_others run x y stop bitmap now in_x in_y square order behind u v in_side other =
+      behind u v in_side other ∙ pixel_at-with_span_other side bitmap y x stop u v (opaque run.pixel) square in_y order in_x in_side (λ same_row from to. other same_row)
+
   row_drawn : (runs : List Run) (row : List Rgb) (before : Option Rgb) (x y at : ℕ) (bucket : List Ink) (mark : Spot) (bitmap : List Rgba)
       → Covers runs row → x + length row ≡ side → at ≡ x % side → ((k : ℕ) → k < length row → IsBytes (get_or row k black)) → IsSquare side bitmap → y < side → Agrees before bucket
       → RowDrawn (row_commands before runs) (last_pixel before runs) row x y at bucket mark bitmap
@@ -192,28 +227,9 @@ module _ (side most : ℕ) (table : Table) (knows : Knows table) where
             (canvas_of bucket (spot at y) mark bitmap) (canvas_of one.filled (spot (stop % side) y) (spot x y) painted) (canvas_of further.filled (spot 0 ((y + 1) % side)) further.aim further.now)
             (subst (λ n. Builds side most table (run_commands before run) (canvas_of bucket (spot n y) mark bitmap) (canvas_of one.filled (spot (stop % side) y) (spot x y) painted)) (sym here) one.builds)
             further.builds;
-        pixels =
-            λ k below. elim (cases_lt k run.len) [
-              | inl within ↦
-                  further.west (x + k) (omega arith)
-                  ∙ pixel_at-with_span side bitmap y x stop (x + k) (opaque run.pixel) square in_y (omega arith) (omega arith) in_x
-                  ∙ ap opaque (sym (covers.2 k within))
-              | inr past ↦
-                  let j : ℕ = k - run.len in
-                  let place : x + k ≡ stop + j = omega arith in
-                  let from : run.len + j ≡ k = omega arith in
-                  ap (λ n. pixel_at side further.now n y) place
-                  ∙ further.pixels j (omega arith)
-                  ∙ ap opaque (rest_at j ∙ ap (λ n. get_or row n black) from)
-            ];
-        west =
-            λ u before_x.
-            further.west u (omega arith)
-            ∙ pixel_at-with_span_other side bitmap y x stop u y (opaque run.pixel) square in_y (omega arith) in_x (omega arith) (λ row_same from to. omega arith);
-        others =
-            λ u v in_side other.
-            further.others u v in_side other
-            ∙ pixel_at-with_span_other side bitmap y x stop u v (opaque run.pixel) square in_y (omega arith) in_x in_side (λ row_same from to. other row_same);
+        pixels = row_pixels run row x y stop bitmap further.now refl in_x in_y square covers.2 further.west further.pixels;
+        west = row_west run x y stop bitmap further.now in_x in_y square some refl further.west;
+        others = row_others run x y stop bitmap further.now in_x in_y square (omega arith) further.others;
       }
 
   module _ (picture : List Rgb) (filled : side * side ≤ length picture) (small : (place : ℕ) → IsBytes (get_or picture place black)) where

@@ -60,6 +60,7 @@ fn headers(rt: HostRuntime) -> Result<(), Fail> {
 fn pixels_from_the_north_west(rt: HostRuntime) -> Result<(), Fail> {
     let bytes = file(rt.alloc(), b"P6\n600 600\n255\n", 1_080_000)?;
     let picture = read_ppm(rt.alloc(), bytes.as_slice()).map_err(|_| "no picture")?;
+    assert_eq!(rt; picture.pixel_count(), 360_000);
     assert_eq!(rt; picture.rgb(Spot { x: 0, y: 0 }), (1, 2, 3));
     assert_eq!(rt; picture.rgb(Spot { x: 2, y: 0 }), (7, 8, 9));
     assert_eq!(rt; picture.rgb(Spot { x: 0, y: 1 }), (0, 0, 0));
