@@ -18,12 +18,13 @@ pub enum DrawError {
 }
 
 /// The DNA that draws a picture, of at most `limit` bases, where `limit` is at most 2^40. Each run of equal pixels in a row
-/// is drawn as a line, behind the 255 inks whose average is its colour. The length, at most 932,418,000 bases, is counted
-/// before any DNA is made.
+/// is drawn as a line, behind 255 inks whose average is its colour where the bucket holds another. The length, at most
+/// 932,418,000 bases, is counted before any DNA is made.
 pub fn compile_picture(alloc: Global, picture: &Picture, limit: u64) -> Result<BaseList, DrawError>
     requires { limit ≤ 2 ^ 40 }
     ensures drawing { IfOk result (λ list. list ≡ drawing picture.now) }
     ensures within { IfOk result (λ list. length list ≤ limit) }
+    ensures most { IfOk result (λ list. length list ≤ 932418000) }
     ensures draws { IfOk result (λ list. Draws list picture.now) }
     ensures too_long { result ≡ Err DrawError.TooLong → limit < length (drawing picture.now) }
 {

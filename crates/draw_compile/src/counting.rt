@@ -20,6 +20,7 @@ struct Counts {
 /// The length of the DNA that draws a picture, in bases.
 pub(crate) fn drawing_len(picture: &Picture) -> u64
     ensures len { result ≡ length (drawing picture.now) }
+    ensures most { result ≤ 932418000 }
     ensures picture { IsPicture picture.now }
 {
     let counts = count_rows(picture);

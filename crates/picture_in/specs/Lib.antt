@@ -1,3 +1,4 @@
 pub mod Header
+pub mod Form
 pub mod Pixmap
 pub mod Worked
