@@ -1,0 +1,4 @@
+pub mod ScriptLemmas
+pub mod RangeLemmas
+pub mod VersionLemmas
+pub mod PlaceLemmas

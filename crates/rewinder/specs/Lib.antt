@@ -1,0 +1,9 @@
+pub mod Numbers
+pub mod Script
+pub mod Versions
+pub mod Places
+pub mod Texts
+pub mod Rewinding
+pub mod Weights
+pub mod History
+pub mod Laws
