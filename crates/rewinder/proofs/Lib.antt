@@ -2,3 +2,9 @@ pub mod ScriptLemmas
 pub mod RangeLemmas
 pub mod VersionLemmas
 pub mod PlaceLemmas
+pub mod TextLemmas
+pub mod WeightLemmas
+pub mod HistoryLemmas
+pub mod StepLemmas
+pub mod OrderLines
+pub mod ScriptSteps

@@ -1,6 +1,7 @@
 -- The letters of a range, put some at a time.
-use Rattle.std.proofs.Common.{◌≡◌, ℕ, zero, suc, ◌+◌, ◌-◌, ◌<◌, ◌≤◌, List, [], ◌∷◌, ◌++◌, length, take, drop, map, Option, Result, Ok, Err, refl, sym, ap, ◌∙◌, subst, arith, length-drop, take-append-drop}
+use Rattle.std.proofs.Common.{◌≡◌, ◌⊎◌, inl, inr, ℕ, zero, suc, ◌+◌, ◌-◌, ◌<◌, ◌≤◌, List, [], ◌∷◌, ◌++◌, length, take, drop, map, Option, Result, Ok, Err, refl, sym, ap, ◌∙◌, subst, arith, length-drop, take-append-drop}
 use Rattle.std.specs.Prelude.{slice_range, min}
+use Rattle.std.proofs.lemmas.Bool.{cases_lt}
 use Rattle.std.proofs.Math.Seq.{take-add, take-append_seam}
 use Rattle.std.proofs.lemmas.List.{drop-drop, length-take-le, length-map, take-map, drop-map, take_min}
 use Rattle.fuun_base.specs.declared.letters.Base.{Base}
@@ -58,6 +59,15 @@ range_front old mid new text piece lo place count hi from to is before put =
     let here = PutsFront-longer mid new (slice_range text place (place + count)) (slice_range text (place + count) hi) (subst (PutsFront mid new) is put) in
     let rest = subst (PutsFront mid new) (sym (range_split text place (place + count) hi (omega arith) to)) here in
     subst (PutsFront old new) (sym (range_split text lo place hi from (omega arith))) (PutsFront-behind old mid new (slice_range text lo place) (slice_range text place hi) before rest)
+
+-- all letters were put
+pub range_end : (text : List ℕ) (lo place hi : ℕ) → hi ≤ place → (lo ≤ hi → place ≤ hi) → (hi ≤ lo → place ≡ lo) → slice_range text lo place ≡ slice_range text lo hi
+range_end text lo place hi past to none =
+    let width : place - lo ≡ hi - lo = elim (cases_lt hi lo) [
+      | inl less ↦ let at : place ≡ lo = none (omega (arith, less)) in omega (arith, less, at)
+      | inr from ↦ let within : place ≤ hi = to from in omega (arith, past, within)
+    ] in
+    ap (λ n. take n (drop lo text)) width
 
 -- a range that ends behind the end is cut short
 pub range_cut : (dna : List Base) (lo hi : ℕ) → slice_range dna lo (min hi (length dna)) ≡ slice_range dna lo hi

@@ -54,7 +54,7 @@ judged_all bytes rest line none so_far = sym (rw (nil_of_none rest none) at so_f
 
 -- digits
 
-both_true : (a b : Bool) → (a && b) ≡ true → (a ≡ true) × (b ≡ true)
+pub both_true : (a b : Bool) → (a && b) ≡ true → (a ≡ true) × (b ≡ true)
 both_true true b is = (refl, is)
 both_true false b is = absurd (cc)
 

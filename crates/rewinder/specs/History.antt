@@ -1,5 +1,5 @@
 -- The versions that a rewinder keeps.
-use Rattle.std.specs.Prelude.{◌≡◌, ℕ, ◌-◌, ◌+◌, ◌^◌, ◌<◌, ◌≤◌, Option, Some, None, IfSome, List, [], ◌∷◌, ◌++◌, length, slice_index_or}
+use Rattle.std.specs.Prelude.{◌≡◌, ℕ, ◌-◌, ◌+◌, ◌^◌, ◌<◌, ◌≤◌, Option, Some, None, IfSome, List, [], ◌∷◌, ◌++◌, length, max, slice_index_or}
 use Rattle.fuun_base.specs.declared.letters.Base.{Base}
 use Rattle.exec_loop.specs.Attempt as attempt
 use Rattle.exec_loop.specs.Attempt.{Attempt, IsAttempt, next_dna}
@@ -10,7 +10,8 @@ use Rattle.rewinder.specs.declared.orders.Stop.{Stop}
 use Rattle.rewinder.specs.declared.orders.Stop.TheVariants.{Limit, Finish, TooLong}
 use Rattle.rewinder.specs.Versions.{most_attempts, IsVersion, EndsBy}
 use Rattle.rewinder.specs.Rewinding.{Rewinding}
-use Rattle.rewinder.specs.Weights.{LastTried}
+use Rattle.rewinder.specs.Places.{IsNearest}
+use Rattle.rewinder.specs.Weights.{FailedTicks, LastTried, StepTicks}
 
 -- the limit on lengths, the versions from the start on, and why there is none behind the last, where that is known
 pub record History : Type 0 where
@@ -65,6 +66,12 @@ pub data Grows (old new : History) : Type 0 where
   ByOne : (next : List Base) → GoesOn old.limit (last_version old) next → new ≡ record { limit = old.limit; kept = old.kept ++ next ∷ []; stop = None } → Grows old new
   ByStop : (stop : Stop) → EndsFor old.limit (last_version old) stop → new ≡ record { limit = old.limit; kept = old.kept; stop = Some stop } → Grows old new
 
+-- the same versions are kept, and maybe more
+pub record Keeps (old new : History) : Type 0 where
+  pub limit : new.limit ≡ old.limit
+  pub more : length old.kept ≤ length new.kept
+  pub same : (number : ℕ) → number < length old.kept → version new number ≡ version old number
+
 -- the same versions, and those that attempts behind them made
 pub record Extends (old new : History) (attempts : List Attempt) : Type 0 where
   pub limit : new.limit ≡ old.limit
@@ -95,3 +102,10 @@ pub record FailsToReach (height : ℕ) (old new : History) (number old_steps new
   pub attempt : Attempt
   pub is : IsAttempt (last_version new) old.limit attempt
   pub ticks : TicksFor height (last_version old) (attempts ++ attempt ∷ []) old_steps new_steps
+
+-- a step from a version came to another one
+pub record Comes (height : ℕ) (old new : History) (attempt count place : ℕ) (stop : Option Stop) (old_steps new_steps : ℕ) : Type 0 where
+  pub nearest : IsNearest old.limit (version old 0) (attempt + count) place stop
+  pub grew : reached new ≡ max (reached old) place
+  pub ticks : StepTicks height (rewinding old attempt) (rewinding new place) (attempt + count) old_steps new_steps
+  pub quiet : attempt + count ≤ reached old → new_steps ≡ old_steps

@@ -10,7 +10,7 @@ mod texts;
 mod trying;
 
 pub use orders::{Order, OrderList, RewindError, ScriptError, Stop};
-pub use rewinding::StrandRewinder;
+pub use rewinding::{Rewinder, StrandRewinder};
 pub use script::read_script;
 
 #[cfg(test)]

@@ -1,13 +1,17 @@
-ghost use Rattle.std.specs.Prelude.{◌≡◌, ◌≢◌, ◌^◌, ◌≤◌, length, IfOk};
-ghost use Rattle.fuun_io.specs.Counts.{Rose};
-ghost use Rattle.rewinder.specs.Rewinding.{AllCommanded, Commanded, IsRewinding};
-ghost use Rattle.rewinder.specs.Weights.{IsKnown, OrderTicks, TicksForScript};
+ghost use Rattle.std.specs.Prelude.{◌≡◌, ◌≢◌, ◌+◌, ◌-◌, ◌^◌, ◌≤◌, length, max, IfOk, OnErr, OnOk};
+ghost use Rattle.fuun_io.specs.Counts.{HasCause, Rose};
+ghost use Rattle.fuun_io.specs.Written.{Puts};
+ghost use Rattle.rewinder.specs.Places.{IsNearest, Moves};
+ghost use Rattle.rewinder.specs.Rewinding.{AllCommanded, Commanded, IsRefused, IsRewinding};
+ghost use Rattle.rewinder.specs.Texts.{order_text};
+ghost use Rattle.rewinder.specs.Weights.{IsKnown, OrderTicks, TicksByAnswer, TicksForScript};
 
 use crate::history::Versions;
-use crate::{Order, OrderList, RewindError};
+use crate::texts::{put_place, put_range};
+use crate::{Order, OrderList, RewindError, Stop};
 use fuun_base::{NoMemory, Steps};
-use fuun_io::Sink;
-// use rope_strand::RopeStrand;
+use fuun_io::{Sink, WriteFault};
+use rope_strand::RopeStrand;
 use std::alloc::Global;
 use std::marker::Model;
 use std::sync::ledger::Ledger;
@@ -21,8 +25,8 @@ pub struct StrandRewinder<S: Strand> {
     attempt: u64,
 }
 
-// A rewinder over ropes.
-// pub type Rewinder = StrandRewinder<RopeStrand>;
+/// A rewinder over ropes.
+pub type Rewinder = StrandRewinder<RopeStrand>;
 
 impl<S: Strand> Model for StrandRewinder<S> {
     ghost use Rattle.std.specs.Prelude.{◌<◌, length};
@@ -93,9 +97,9 @@ impl<S: Strand> StrandRewinder<S> {
         ensures ticks { OrderTicks (S.height_bound self.old.limit) self.old self.new order.now result steps.old steps.new }
         ensures quiet { IsKnown self.old order.now → steps.new ≡ steps.old }
     {
-        let (_order, _sink, _steps) = (order, sink, steps);
-        let _attempt = self.attempt();
-        Err(RewindError::NoMemory)
+        let stop = self.go(order, steps)?;
+        self.tell(order, stop, sink)?;
+        Ok(())
     }
 
     /// Obeys orders one after the other, and writes the text of each as it is known. After an error a front of what they
@@ -114,8 +118,90 @@ impl<S: Strand> StrandRewinder<S> {
         ensures no_fault { result ≢ Err RewindError.WriteFault → K.faults sink.new ≡ K.faults sink.old }
         ensures ticks { TicksForScript (S.height_bound self.old.limit) self.old orders.now steps.old steps.new }
     {
-        let (_orders, _sink, _steps) = (orders, sink, steps);
         let _attempt = self.attempt();
-        Err(RewindError::NoMemory)
+        for order in orders.as_slice() {
+            self.command(order, sink, steps)?;
+        }
+        Ok(())
+    }
+
+    /// Goes where an order leads, and tells why a step stops short.
+    fn go<L: Ledger>(
+        &mut self,
+        order: &Order,
+        steps: &mut Steps<L>,
+    ) -> Result<Option<Stop>, RewindError>
+        ensures memory { OnErr result (result ≡ Err RewindError.NoMemory) }
+        ensures moves { IfOk result (λ stop. Moves self.old.limit self.old.start order.now self.old.attempt self.new.attempt stop) }
+        ensures reached { OnOk result (self.new.reached ≡ max self.old.reached self.new.attempt) }
+        ensures refused { OnErr result (IsRefused self.old self.new) }
+        ensures start { self.new.start ≡ self.old.start }
+        ensures limit { self.new.limit ≡ self.old.limit }
+        ensures known { IsRewinding self.new }
+        ensures ticks { OrderTicks (S.height_bound self.old.limit) self.old self.new order.now result steps.old steps.new }
+        ensures quiet { IsKnown self.old order.now → steps.new ≡ steps.old }
+    {
+        match order {
+            Order::Step(count) => self.step(*count, steps),
+            Order::Back(count) => {
+                self.back(*count);
+                Ok(None)
+            }
+            Order::Show { .. } | Order::Where => {
+                let _attempt = self.attempt();
+                Ok(None)
+            }
+        }
+    }
+
+    /// Goes so many attempts forward, and tells why it stops short.
+    fn step<L: Ledger>(
+        &mut self,
+        count: u64,
+        steps: &mut Steps<L>,
+    ) -> Result<Option<Stop>, RewindError>
+        ensures memory { OnErr result (result ≡ Err RewindError.NoMemory) }
+        ensures nearest { IfOk result (λ stop. IsNearest self.old.limit self.old.start (self.old.attempt + count) self.new.attempt stop) }
+        ensures reached { OnOk result (self.new.reached ≡ max self.old.reached self.new.attempt) }
+        ensures refused { OnErr result (IsRefused self.old self.new) }
+        ensures start { self.new.start ≡ self.old.start }
+        ensures limit { self.new.limit ≡ self.old.limit }
+        ensures known { IsRewinding self.new }
+        ensures ticks { TicksByAnswer (S.height_bound self.old.limit) self.old self.new (self.old.attempt + count) result steps.old steps.new }
+        ensures quiet { self.old.attempt + count ≤ self.old.reached → steps.new ≡ steps.old }
+    {
+        let place = self.versions.go_on(self.attempt, count, steps)?;
+        self.attempt = place.number;
+        Ok(place.stop)
+    }
+
+    /// Goes so many attempts back, at most to the start.
+    fn back(&mut self, count: u64)
+        ensures attempt { self.new.attempt ≡ self.old.attempt - count }
+        ensures reached { self.new.reached ≡ max self.old.reached self.new.attempt }
+        ensures start { self.new.start ≡ self.old.start }
+        ensures limit { self.new.limit ≡ self.old.limit }
+        ensures known { IsRewinding self.new }
+    {
+        let _reached = self.versions.reached();
+        self.attempt = self.attempt.saturating_sub(count);
+    }
+
+    /// Writes the text of an order that led to the attempt in hand.
+    fn tell<K: Sink>(
+        &self,
+        order: &Order,
+        stop: Option<Stop>,
+        sink: &mut K,
+    ) -> Result<(), WriteFault>
+        ensures puts { Puts result (K.bytes sink.old) (K.bytes sink.new) (order_text order.now self.now.attempt self.now.dna stop) }
+        ensures cause { HasCause (K.faults sink.old) (K.faults sink.new) result }
+    {
+        match order {
+            Order::Show { lo, hi } => put_range(self.dna(), *lo, *hi, sink),
+            Order::Step(_) | Order::Back(_) | Order::Where => {
+                put_place(self.attempt, self.dna().len(), stop, sink)
+            }
+        }
     }
 }

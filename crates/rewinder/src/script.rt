@@ -1,4 +1,4 @@
-ghost use Rattle.std.specs.Prelude.{◌≡◌, ℕ, ◌+◌, ◌^◌, ◌≤◌, ◌==◌, Some, None, IfOk, IfSome, IsTrue, MatchOption, OnOk, drop, min, length, position, unwrap_or};
+ghost use Rattle.std.specs.Prelude.{◌≡◌, ℕ, ◌+◌, ◌^◌, ◌<◌, ◌≤◌, ◌==◌, Some, None, IfOk, IfSome, IsTrue, MatchOption, OnOk, drop, min, length, position, unwrap_or};
 ghost use Rattle.std.specs.Option.{option_map};
 ghost use Rattle.std.specs.List.{list_all};
 ghost use Rattle.std.specs.Str.Parse.{digits_value};
@@ -103,11 +103,19 @@ fn behind<'a>(line: &'a [u8], word: &[u8]) -> Option<&'a [u8]>
     line.strip_prefix(word)
 }
 
+// Where the first space stands.
+fn space(text: &[u8]) -> Option<usize>
+    ensures place { result ≡ position (λ byte. byte == 32) text.now }
+    ensures within { IfSome result (λ at. at < length text.now) }
+{
+    text.iter().position(|byte| *byte == b' ')
+}
+
 // The numbers round a space.
 fn range_of(text: &[u8]) -> Option<Order>
     ensures { result ≡ range_of text.now }
 {
-    let at = text.iter().position(|byte| *byte == b' ')?;
+    let at = space(text)?;
     let lo = number(&text[..at])?;
     let hi = number(&text[at + 1..])?;
     Some(Order::Show { lo, hi })

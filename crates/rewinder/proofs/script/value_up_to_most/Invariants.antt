@@ -1,8 +1,7 @@
-use Rattle.std.proofs.Common.{◌≡◌, ◌+◌, take}
+use Rattle.std.proofs.Common.{◌≡◌, ◌+◌, ◌^◌, take}
 use Rattle.std.specs.Prelude.{min}
 use Rattle.std.specs.Str.Parse.{digits_value}
-use Rattle.rewinder.specs.declared.TheConstants.script.{MOST}
 use Rattle.rewinder.proofs.script.value_up_to_most.Given as goal
 
 abbrev pub invariant-loop-digit : goal.invariant-loop-digit
-invariant-loop-digit l = l.value ≡ min (digits_value 10 (take l.digit-index l.digits)) (MOST + 1)
+invariant-loop-digit l = l.value ≡ min (digits_value 10 (take l.digit-index l.digits)) (2 ^ 40 + 1)

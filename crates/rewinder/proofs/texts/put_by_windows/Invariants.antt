@@ -8,6 +8,7 @@ abbrev pub invariant-loop-place : goal.invariant-loop-place
 invariant-loop-place g l = record {
   from : l.lo ≤ l.place;
   to : l.lo ≤ l.hi → l.place ≤ l.hi;
+  none : l.hi ≤ l.lo → l.place ≡ l.lo;
   text : g.K.Sink.bytes l.sink ≡ appended (g.K.Sink.bytes l.fn.sink) (slice_range (map letter_of (g.S.Strand.bases l.dna)) l.lo l.place);
   faults : g.K.Sink.faults l.sink ≡ g.K.Sink.faults l.fn.sink;
   bases : length l.bases ≡ length l.initial.bases;
