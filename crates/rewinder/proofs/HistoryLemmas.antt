@@ -1,26 +1,22 @@
 -- Versions that are made one after the other.
-use Rattle.std.proofs.Common.{◌≡◌, ◌⊎◌, inl, inr, ℕ, zero, suc, ◌+◌, ◌-◌, ◌<◌, ◌≤◌, ◌^◌, Option, Some, None, IfSome, List, [], ◌∷◌, ◌++◌, length, get_or, slice_index_or, arith, refl, sym, ap, subst, ◌∙◌, append-nil, append_assoc, length-append}
-use Rattle.std.specs.Prelude.{max, min}
+use Rattle.std.proofs.Common.{◌≡◌, ◌⊎◌, inl, inr, ℕ, ◌+◌, ◌-◌, ◌<◌, ◌≤◌, ◌^◌, Option, Some, None, IfSome, List, [], ◌∷◌, ◌++◌, length, slice_index_or, arith, refl, sym, ap, subst, ◌∙◌, append-nil, append_assoc, length-append}
 use Rattle.std.proofs.lemmas.Bool.{cases_lt}
 use Rattle.std.proofs.lemmas.Option.{none-some}
 use Rattle.std.proofs.lemmas.List.{get_or_append_left, get_or_push}
 use Rattle.fuun_base.specs.declared.letters.Base.{Base}
 use Rattle.fuun_base.specs.Ticks.{Ticks}
-use Rattle.exec_loop.specs.Attempt as attempt
-use Rattle.exec_loop.specs.Attempt.{Attempt, Ending, IsAttempt, next_dna}
+use Rattle.exec_loop.specs.Attempt.{Attempt, IsAttempt}
 use Rattle.exec_loop.specs.Run.{Leads}
-use Rattle.exec_loop.specs.State.{State}
 use Rattle.exec_loop.specs.Weights.{Weighs, WeighTogether, TicksFor, TicksForAttempt}
 use Rattle.exec_loop.proofs.AttemptByAttempt.{leads_more}
 use Rattle.exec_loop.proofs.Attempts.{has_attempt}
 use Rattle.exec_loop.proofs.Weighing.{has_weight, weigh_more}
 use Rattle.rewinder.specs.declared.orders.Stop.{Stop}
 use Rattle.rewinder.specs.declared.orders.Stop.TheVariants.{Limit, Finish, TooLong}
-use Rattle.rewinder.specs.Versions.{most_attempts, IsVersion, EndsBy}
-use Rattle.rewinder.specs.Places.{StopsBy, IsNearest}
-use Rattle.rewinder.specs.Weights.{AreBetween, LastTried}
+use Rattle.rewinder.specs.Versions.{most_attempts, IsVersion}
+use Rattle.rewinder.specs.Weights.{LastTried}
 use Rattle.rewinder.specs.History.{History, version, reached, EndsFor, IsHistory, GoesOn, last_version, last_state, Grows, ByOne, ByStop, Extends, Makes, Keeps, Reaches, There, Here, Short, FailsToReach}
-use Rattle.rewinder.proofs.VersionLemmas.{first_version, version_more, version_behind}
+use Rattle.rewinder.proofs.VersionLemmas.{first_version, version_more}
 
 -- a list that grew by one
 
@@ -263,14 +259,14 @@ making_done height old new number old_steps new_steps m done =
     elim (cases_lt (reached old) number) [
       | inr past ↦ There past (m.quiet past).0 (m.quiet past).1
       | inl less ↦ elim (option_case new.stop) [
-          | inl none ↦
-              let at : number ≤ reached new = done none in
-              let within : reached new ≤ number = m.within less in Here less m.makes none (omega (arith, at, within))
-          | inr some ↦ elim (m.short less) [
-              | inl none ↦ absurd (none-some some.0 (sym none ∙ some.1))
-              | inr short ↦ Short some.0 m.makes some.1 short
-            ]
+        | inl none ↦
+            let at : number ≤ reached new = done none in
+            let within : reached new ≤ number = m.within less in Here less m.makes none (omega (arith, at, within))
+        | inr some ↦ elim (m.short less) [
+          | inl none ↦ absurd (none-some some.0 (sym none ∙ some.1))
+          | inr short ↦ Short some.0 m.makes some.1 short
         ]
+      ]
     ]
 
 pub making_failed : (height : ℕ) (old mid new : History) (number old_steps steps new_steps : ℕ) → Making height old mid number old_steps steps → mid.stop ≡ None → reached mid < number → new ≡ mid

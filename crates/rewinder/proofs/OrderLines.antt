@@ -89,10 +89,10 @@ space_found first second digits =
     let text : List ℕ = first ++ 32 ∷ second in
     let size : length text ≡ length first + suc (length second) = length-append first (32 ∷ second) in
     let none : (k : ℕ) → k < length first → (get_or text k 0 == 32) ≡ false = λ (k : ℕ) (lt : k < length first).
-        let range = digit_range first k digits lt in
-        let low : 48 ≤ get_or first k 0 = range.0 in
-        let same : get_or text k 0 ≡ get_or first k 0 = get_or_append_left first (32 ∷ second) 0 k lt in
-        ne_eqb (get_or text k 0) 32 (λ is. absurd (omega (arith, is, same, low))) in
+    let range = digit_range first k digits lt in
+    let low : 48 ≤ get_or first k 0 = range.0 in
+    let same : get_or text k 0 ≡ get_or first k 0 = get_or_append_left first (32 ∷ second) 0 k lt in
+    ne_eqb (get_or text k 0) 32 (λ is. absurd (omega (arith, is, same, low))) in
     let space : (get_or text (length first) 0 == 32) ≡ true = rw (seam_at first second) refl in
     let at : position_or_len (λ byte. byte == 32) text ≡ length first = position_or_len_is (λ byte. byte == 32) text (length first) 0 (omega (arith, size)) none (λ _. space) in
     let inside : nat_lt (length first) (length text) ≡ true = lt-ltb (length first) (length text) (omega (arith, size)) in

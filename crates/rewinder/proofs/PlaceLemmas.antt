@@ -1,5 +1,5 @@
 -- Where a step comes to.
-use Rattle.std.proofs.Common.{◌≡◌, ◌⊎◌, inl, inr, ℕ, zero, suc, ◌+◌, ◌-◌, ◌<◌, ◌≤◌, ◌^◌, Option, Some, None, List, arith, refl, sym, ap, subst, ◌∙◌}
+use Rattle.std.proofs.Common.{◌≡◌, ◌⊎◌, inl, inr, ℕ, zero, suc, ◌+◌, ◌-◌, ◌<◌, ◌≤◌, Option, Some, None, List, arith, refl, sym, ap, subst, ◌∙◌}
 use Rattle.std.specs.Prelude.{min}
 use Rattle.std.proofs.lemmas.Bool.{cases_lt}
 use Rattle.fuun_base.specs.declared.letters.Base.{Base}
@@ -38,9 +38,9 @@ no_later limit start asked place other stop dna x version within few =
     elim least.why [
       | inl is ↦ omega (arith, is, within)
       | inr why ↦ elim why [
-          | inl is ↦ omega (arith, is, few)
-          | inr end ↦ version_within limit start other place dna version end
-        ]
+        | inl is ↦ omega (arith, is, few)
+        | inr end ↦ version_within limit start other place dna version end
+      ]
     ]
 
 finish_or_too_long : (limit : ℕ) (dna : List Base) → EndsBy limit dna attempt.Finished → EndsBy limit dna attempt.TooLong → ⊥

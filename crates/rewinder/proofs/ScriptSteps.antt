@@ -1,7 +1,7 @@
 -- A script, order by order.
-use Rattle.std.proofs.Common.{◌≡◌, ℕ, ◌+◌, ◌<◌, ◌≤◌, Option, Some, None, Result, Ok, Err, List, [], ◌∷◌, ◌++◌, length, take, drop, get_or, arith, refl, sym, ap, subst, ◌∙◌, add-one, append-nil, append_assoc, take-append-drop, drop-cons}
+use Rattle.std.proofs.Common.{◌≡◌, ℕ, suc, ◌+◌, ◌<◌, ◌≤◌, Option, Result, Ok, Err, List, [], ◌∷◌, ◌++◌, length, take, drop, get_or, arith, refl, sym, ap, subst, ◌∙◌, append-nil, take-append-drop, drop-cons}
 use Rattle.std.specs.Prelude.{max}
-use Rattle.std.proofs.lemmas.List.{drop_all, take_all, take_more}
+use Rattle.std.proofs.lemmas.List.{take_more}
 use Rattle.fuun_base.specs.declared.letters.Base.{Base}
 use Rattle.fuun_base.specs.Ticks.{Ticks}
 use Rattle.fuun_io.specs.Written.{appended, PutsFront}
@@ -11,7 +11,7 @@ use Rattle.rewinder.specs.declared.orders.RewindError.{RewindError}
 use Rattle.rewinder.specs.declared.orders.RewindError.TheVariants.{WriteFault, NoMemory}
 use Rattle.rewinder.specs.Versions.{most_attempts, IsVersion}
 use Rattle.rewinder.specs.Texts.{Obeys, Writes}
-use Rattle.rewinder.specs.Rewinding.{Rewinding, IsRewinding, IsObeyed, IsRefused, Commanded, AllCommanded}
+use Rattle.rewinder.specs.Rewinding.{Rewinding, IsRewinding, Commanded, AllCommanded}
 use Rattle.rewinder.specs.Weights.{OrderTicks, OrderWeighs, ScriptWeighs, TicksForScript}
 use Rattle.rewinder.proofs.TextLemmas.{has_text, writes_behind, writes_one}
 use Rattle.rewinder.proofs.WeightLemmas.{failed_order_within, obeyed_order_within, unwritten_order_within, one_order_place}
@@ -47,7 +47,9 @@ obeying_none height r orders told steps known = record {
 module _ (height : ℕ) (old mid : Rewinding) (orders : List Order) (number : ℕ) (order : Order) (told before : Option (List ℕ)) (old_steps steps : ℕ)
     (x : Obeying height old mid orders number told before old_steps steps) (inside : number < length orders) (is : order ≡ get_or orders number order) where
   left_is : drop number orders ≡ order ∷ drop (number + 1) orders
-  left_is = rw add-one (drop-cons orders number order inside ∙ ap (λ o. o ∷ drop (number + 1) orders) (sym is))
+  left_is =
+      let next : suc number ≡ number + 1 = omega arith in
+      drop-cons orders number order inside ∙ ap (λ k. get_or orders number order ∷ drop k orders) next ∙ ap (λ o. o ∷ drop (number + 1) orders) (sym is)
 
   front_is : take (number + 1) orders ≡ take number orders ++ order ∷ []
   front_is = take_more orders number order inside ∙ ap (λ o. take number orders ++ o ∷ []) (sym is)
@@ -145,23 +147,3 @@ module _ (height : ℕ) (old mid : Rewinding) (orders : List Order) (number : �
       let few : mid.reached ≤ most_attempts = x.known.few in
       front_of_all new U RewindError NoMemory number mid.attempt mid.dna x.text [] now (omega (arith, behind, few)) version x.writes
       (record { front = x.text; rest = []; whole = sym (append-nil x.text); put = commanded.1 ∙ x.put })
-
--- all orders were obeyed
-
-pub obeyed_all : (height : ℕ) (old new : Rewinding) (orders : List Order) (number : ℕ) (T E : Type 0) (value : T) (told now : Option (List ℕ)) (old_steps new_steps : ℕ) → length orders ≤ number → Obeying height old new orders number told now old_steps new_steps
-    → (let r : Result T E = Ok value in AllCommanded old new orders r told now)
-obeyed_all height old new orders number T E value told now old_steps new_steps past x = record {
-  last = new.attempt;
-  text = x.text;
-  writes = subst (λ l. Writes old.limit old.start l old.attempt new.attempt x.text) (take_all number orders past) x.writes;
-  puts = x.put;
-  led = refl;
-}
-
-pub obeyed_ticks : (height : ℕ) (old new : Rewinding) (orders : List Order) (number : ℕ) (told now : Option (List ℕ)) (old_steps new_steps : ℕ) → length orders ≤ number → Obeying height old new orders number told now old_steps new_steps
-    → TicksForScript height old orders old_steps new_steps
-obeyed_ticks height old new orders number told now old_steps new_steps past x total w =
-    let p : Paid height old new (drop number orders) total old_steps new_steps = x.paid total w in
-    let some : old_steps ≤ new_steps = p.grows in
-    let most : new_steps + p.rest ≤ old_steps + total = p.most in
-    (omega (arith, some), omega (arith, most))

@@ -1,13 +1,12 @@
 -- What orders weigh.
-use Rattle.std.proofs.Common.{◌≡◌, ◌⊎◌, inl, inr, ℕ, suc, ◌+◌, ◌-◌, ◌<◌, ◌≤◌, Option, Some, None, Result, Ok, Err, List, [], ◌∷◌, ◌++◌, length, arith, refl, sym, ap, subst, ◌∙◌, append-nil, append_assoc, length-append}
+use Rattle.std.proofs.Common.{◌≡◌, inl, inr, ℕ, ◌+◌, ◌<◌, ◌≤◌, Option, Some, None, Result, Ok, Err, List, [], ◌∷◌, ◌++◌, length, arith, refl, sym, ap, subst, ◌∙◌, length-append}
 use Rattle.std.specs.Prelude.{max}
 use Rattle.std.proofs.lemmas.Bool.{cases_lt}
 use Rattle.fuun_base.specs.declared.letters.Base.{Base}
 use Rattle.fuun_base.specs.Ticks.{Ticks}
 use Rattle.exec_loop.specs.Attempt.{Attempt, IsAttempt}
 use Rattle.exec_loop.specs.Made.{dna_behind}
-use Rattle.exec_loop.specs.Run.{Leads}
-use Rattle.exec_loop.specs.Weights.{Weighs, WeighTogether, TicksFor}
+use Rattle.exec_loop.specs.Weights.{Weighs, WeighTogether}
 use Rattle.exec_loop.proofs.Weighing.{front_weighs, has_weight}
 use Rattle.rewinder.specs.declared.orders.Order.{Order}
 use Rattle.rewinder.specs.declared.orders.Order.TheVariants.{Step, Back, Show, Where}
@@ -15,11 +14,11 @@ use Rattle.rewinder.specs.declared.orders.RewindError.{RewindError}
 use Rattle.rewinder.specs.declared.orders.RewindError.TheVariants.{WriteFault, NoMemory}
 use Rattle.rewinder.specs.declared.orders.Stop.{Stop}
 use Rattle.rewinder.specs.declared.orders.Stop.TheVariants.{Limit, Finish, TooLong}
-use Rattle.rewinder.specs.Versions.{most_attempts, IsVersion, EndsBy}
+use Rattle.rewinder.specs.Versions.{most_attempts, IsVersion}
 use Rattle.rewinder.specs.Places.{StopsBy, IsNearest}
 use Rattle.rewinder.specs.Texts.{Obeys}
 use Rattle.rewinder.specs.Rewinding.{Rewinding}
-use Rattle.rewinder.specs.Weights.{AreBetween, LastTried, StepTicks, FailedTicks, TicksByAnswer, OrderTicks, StepWeighs, OrderWeighs, ScriptWeighs}
+use Rattle.rewinder.specs.Weights.{AreBetween, LastTried, StepTicks, FailedTicks, OrderTicks, StepWeighs, OrderWeighs, ScriptWeighs}
 use Rattle.rewinder.proofs.VersionLemmas.{version_behind, version_is_one, Follow, follow_chain, front_of, earlier_version, EarlierVersion, ticks_within, version_within}
 use Rattle.rewinder.proofs.PlaceLemmas.{one_place, SamePlace, no_later, place_is_least}
 use Rattle.rewinder.proofs.TextLemmas.{has_move, HasMove}
@@ -165,9 +164,9 @@ reached_before limit start asked place reached stop last x short version few =
     elim (place_is_least limit start asked place stop x).3 [
       | inl is ↦ absurd (omega (arith, is, short))
       | inr why ↦ elim why [
-          | inl is ↦ omega (arith, is, few)
-          | inr end ↦ version_within limit start reached place last version end
-        ]
+        | inl is ↦ omega (arith, is, few)
+        | inr end ↦ version_within limit start reached place last version end
+      ]
     ]
 
 step_weighs : (height limit : ℕ) (start : List Base) (asked place reached : ℕ) (stop : Option Stop) (last : List Base) → IsNearest limit start asked place stop → IsVersion limit start reached last → reached ≤ most_attempts
@@ -176,9 +175,9 @@ step_weighs height limit start asked place reached stop last x version few =
     let greater : HasGreater limit start reached place = has_greater limit start reached place last x.dna version x.version in
     let b : HasBetween limit start reached (max reached place) = has_between limit start reached (max reached place) greater.dna greater.version (omega arith) in
     let same : place < asked → x.dna ≡ b.last = λ short.
-        let before : reached ≤ place = reached_before limit start asked place reached stop last x short version few in
-        let is : max reached place ≡ place = omega (arith, before) in
-        version_is_one limit start place x.dna b.last x.version (subst (λ n. IsVersion limit start n b.last) is b.there) in
+    let before : reached ≤ place = reached_before limit start asked place reached stop last x short version few in
+    let is : max reached place ≡ place = omega (arith, before) in
+    version_is_one limit start place x.dna b.last x.version (subst (λ n. IsVersion limit start n b.last) is b.there) in
     let tried : HasTried limit b.last stop = has_tried limit start asked place x.dna b.last stop x.stops same in
     let w : (total : ℕ) × WeighTogether height b.first (b.attempts ++ tried.more) total =
     follow_weighs height limit b.first (b.attempts ++ tried.more) (follow_chain limit b.first b.attempts tried.more b.last b.between.leads (follow_tried limit b.last stop tried.more tried.tried)) in

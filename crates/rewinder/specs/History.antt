@@ -11,7 +11,7 @@ use Rattle.rewinder.specs.declared.orders.Stop.TheVariants.{Limit, Finish, TooLo
 use Rattle.rewinder.specs.Versions.{most_attempts, IsVersion, EndsBy}
 use Rattle.rewinder.specs.Rewinding.{Rewinding}
 use Rattle.rewinder.specs.Places.{IsNearest}
-use Rattle.rewinder.specs.Weights.{FailedTicks, LastTried, StepTicks}
+use Rattle.rewinder.specs.Weights.{LastTried, StepTicks}
 
 -- the limit on lengths, the versions from the start on, and why there is none behind the last, where that is known
 pub record History : Type 0 where

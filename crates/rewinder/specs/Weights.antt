@@ -12,7 +12,7 @@ use Rattle.rewinder.specs.declared.orders.RewindError.TheVariants.{WriteFault, N
 use Rattle.rewinder.specs.declared.orders.Stop.{Stop}
 use Rattle.rewinder.specs.declared.orders.Stop.TheVariants.{Limit, Finish, TooLong}
 use Rattle.rewinder.specs.Versions.{most_attempts, IsVersion}
-use Rattle.rewinder.specs.Places.{IsNearest, Moves}
+use Rattle.rewinder.specs.Places.{IsNearest}
 use Rattle.rewinder.specs.Rewinding.{Rewinding}
 
 -- the attempts from one version on to another

@@ -102,11 +102,7 @@ impl<S: Strand> Versions<S> {
     }
 
     /// Makes the versions up to that of a number, as far as attempts give them.
-    fn reach<L: Ledger>(
-        &mut self,
-        number: u64,
-        steps: &mut Steps<L>,
-    ) -> Result<(), NoMemory>
+    fn reach<L: Ledger>(&mut self, number: u64, steps: &mut Steps<L>) -> Result<(), NoMemory>
         requires { number ≤ most_attempts }
         ensures keeps { Keeps self.old self.new }
         ensures known { IsHistory self.new }

@@ -1,5 +1,4 @@
-use Rattle.std.proofs.Common.{◌≡◌, ◌+◌, ◌≤◌, ap, arith, map, sym, subst, ◌∙◌}
-use Rattle.std.specs.Prelude.{slice_range}
+use Rattle.std.proofs.Common.{◌+◌, ◌≤◌, ap, arith, map, sym, subst, ◌∙◌}
 use Rattle.std.proofs.lemmas.Result.{MatchResult-from_err}
 use Rattle.fuun_base.specs.Letter.{letter_of}
 use Rattle.fuun_io.specs.Written.{appended, PutsFront}

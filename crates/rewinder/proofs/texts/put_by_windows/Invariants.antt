@@ -1,4 +1,4 @@
-use Rattle.std.proofs.Common.{◌≡◌, ◌⊎◌, ◌-◌, ◌≤◌, length, map}
+use Rattle.std.proofs.Common.{◌≡◌, ◌-◌, ◌≤◌, length, map}
 use Rattle.std.specs.Prelude.{slice_range}
 use Rattle.fuun_base.specs.Letter.{letter_of}
 use Rattle.fuun_io.specs.Written.{appended}

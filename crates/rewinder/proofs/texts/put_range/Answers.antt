@@ -1,10 +1,9 @@
-use Rattle.std.proofs.Common.{◌≡◌, ◌++◌, ap, codes, length, map, sym, subst, ◌∙◌}
+use Rattle.std.proofs.Common.{◌≡◌, ◌++◌, ap, codes, length, map, subst, ◌∙◌}
 use Rattle.std.specs.Prelude.{min, slice_range}
 use Rattle.std.proofs.lemmas.Result.{MatchResult-from_err}
 use Rattle.fuun_base.specs.Letter.{letter_of}
 use Rattle.fuun_io.specs.Written.{Puts, PutsFront}
 use Rattle.fuun_io.proofs.WrittenLemmas.{PutsFront-longer}
-use Rattle.rewinder.specs.Texts.{range_line}
 use Rattle.rewinder.proofs.RangeLemmas.{range_cut, text_behind}
 use Rattle.rewinder.proofs.texts.put_range.Goals as goal
 

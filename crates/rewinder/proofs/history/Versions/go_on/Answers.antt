@@ -1,4 +1,4 @@
-use Rattle.std.proofs.Common.{◌≡◌, ◌+◌, ◌-◌, ◌<◌, ◌≤◌, ap, arith, ◌∙◌}
+use Rattle.std.proofs.Common.{◌≡◌, ◌+◌, ◌-◌, ◌≤◌, ap, arith, ◌∙◌}
 use Rattle.std.specs.Prelude.{min}
 use Rattle.rewinder.specs.History.{History, reached}
 use Rattle.rewinder.specs.Versions.{most_attempts}

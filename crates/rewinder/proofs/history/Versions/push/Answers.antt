@@ -1,6 +1,6 @@
-use Rattle.std.proofs.Common.{◌≡◌, ◌++◌, [], ◌∷◌, ap, map, ◌∙◌}
+use Rattle.std.proofs.Common.{[], ◌∷◌, ap, map, ◌∙◌}
 use Rattle.std.proofs.lemmas.List.{map-append}
-use Rattle.rewinder.specs.History.{History, IsHistory}
+use Rattle.rewinder.specs.History.{History}
 use Rattle.rewinder.proofs.HistoryLemmas.{history_pushed}
 use Rattle.rewinder.proofs.history.Versions.push.Goals as goal
 
