@@ -3,6 +3,7 @@ pub mod DrawingLemmas
 pub mod OneOutput
 pub mod WrittenOutput
 pub mod OutputStages
+pub mod ReadingLemmas
 pub mod TopLemmas
 pub mod AskLemmas
 pub mod StepLemmas

@@ -3,6 +3,9 @@ use Rattle.std.proofs.Common.{◌≡◌, false, ℕ, Option, Some, None, Result,
 use Rattle.std.specs.List.{AllByRecursion}
 use Rattle.std.specs.Option.{option_map}
 use Rattle.fuun_base.specs.declared.letters.Base.{Base}
+use Rattle.fuun_base.specs.RnaFile.{lines}
+use Rattle.assembler.proofs.AnswerLemmas.{has_answer, answer_is_one}
+use Rattle.picture_in.specs.Pixmap.{picture_of}
 use Rattle.rna_code.specs.declared.profile.Profile.{Profile}
 use Rattle.rna_code.specs.declared.profile.Profile.TheVariants as profile
 use Rattle.rna_code.specs.Commands.{act_of}
@@ -24,7 +27,7 @@ use Rattle.fuun_top.specs.declared.status.InFile.TheVariants as file
 use Rattle.fuun_top.specs.declared.status.Status.{Status}
 use Rattle.fuun_top.specs.declared.status.Status.TheVariants.{Done, Usage}
 use Rattle.fuun_top.specs.Output.{Output, Body, Text, Drawing, IsBody, IsRunOutput, IsTraceOutput, IsListingOutput, IsAnswer, IsOutputOf, answered, OutputBy, OutputOf, plain_body, run_body, spent_is_done, status_by, refusal, picture_side, most_layers}
-use Rattle.fuun_top.specs.Making.{IsMade, patch_prefix}
+use Rattle.fuun_top.specs.Making.{IsMade, assemble_refusal, drawn, patch_prefix, told}
 use Rattle.fuun_top.specs.OutputLaws.{IsTold, AreTold, HasOutput, HasOneOutput}
 use Rattle.fuun_top.specs.Reading.{Files, Reading, then_read, within, bytes_in, dna_in, judged_dna, prefix_in, prefix_files, files_of, rna_in, judged_rna, start_in, text_file, inputs_of}
 use Rattle.fuun_top.specs.Asked.{sorted}
@@ -103,9 +106,13 @@ answer_one Is text once a b p q = p.tells ∙ ap (answered text) (once p.made q.
 
 made_has : (verb : TextVerb) (text : List ℕ) → (made : Result (List Base) Status) × IsMade verb text made
 made_has (texts.Patch limit) text = (patch_prefix limit text, refl)
+made_has texts.Assemble text = let answer = has_answer (lines text) in (told assemble_refusal answer.0, record { answer = answer.0; is = answer.1; tells = refl })
+made_has (texts.Picture limit) text = (drawn limit (picture_of text), refl)
 
 made_one : (verb : TextVerb) (text : List ℕ) (a b : Result (List Base) Status) → IsMade verb text a → IsMade verb text b → a ≡ b
 made_one (texts.Patch limit) text a b p q = p ∙ sym q
+made_one texts.Assemble text a b p q = p.tells ∙ ap (told assemble_refusal) (answer_is_one (lines text) p.answer q.answer p.is q.is) ∙ sym q.tells
+made_one (texts.Picture limit) text a b p q = p ∙ sym q
 
 output_has : (inputs : Inputs) → Has (IsOutputOf inputs)
 output_has (inputs.Run verb dna budget limit) = run_has verb dna budget limit

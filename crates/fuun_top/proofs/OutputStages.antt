@@ -1,6 +1,6 @@
 -- Where the status of an output is decided.
 use Rattle.std.proofs.Common.{◌≡◌, ◌⊎◌, inl, inr, ℕ, Bool, true, false, Result, Ok, Err, List, [], refl, sym, ap, ◌∙◌, subst}
-use Rattle.std.specs.Prelude.{IfErr}
+use Rattle.std.specs.Prelude.{IfErr, if◌then◌else◌, nat_lt, length, Option, Some, None}
 use Rattle.fuun_base.specs.declared.letters.Base.{Base}
 use Rattle.exec_loop.specs.declared.machine.RunEnd.{RunEnd}
 use Rattle.exec_loop.specs.declared.machine.RunEnd.TheVariants as end
@@ -10,13 +10,17 @@ use Rattle.patch_text.specs.Meaning.{patches}
 use Rattle.patch_compile.specs.declared.compiling.CompileError.{CompileError}
 use Rattle.patch_compile.specs.declared.compiling.CompileError.TheVariants as compile
 use Rattle.patch_compile.specs.Compiled.{compiled}
+use Rattle.assembler.specs.declared.assembling.AsmError.{AsmError}
+use Rattle.assembler.specs.declared.assembling.AsmError.TheVariants as assemble
+use Rattle.picture_in.specs.Pixmap.{Rgb, picture_of}
+use Rattle.draw_compile.specs.Drawing.{drawing}
 use Rattle.fuun_top.specs.declared.inputs.Inputs.{Inputs}
 use Rattle.fuun_top.specs.declared.inputs.Inputs.TheVariants as inputs
 use Rattle.fuun_top.specs.declared.request.TextVerb.{TextVerb}
 use Rattle.fuun_top.specs.declared.request.TextVerb.TheVariants as texts
 use Rattle.fuun_top.specs.declared.status.Status.{Status}
-use Rattle.fuun_top.specs.declared.status.Status.TheVariants.{Done}
-use Rattle.fuun_top.specs.Making.{IsMade, compile_refusal, patch_refusal, told, then_made}
+use Rattle.fuun_top.specs.declared.status.Status.TheVariants.{Done, TooLong}
+use Rattle.fuun_top.specs.Making.{IsMade, assemble_refusal, compile_refusal, drawn, patch_refusal, told, then_made}
 use Rattle.fuun_top.specs.Output.{Output, Body, Text, Drawing, IsBody, IsOutputOf, answered, plain_body, run_body, spent_is_done, status_by}
 use Rattle.fuun_top.specs.Stages.{ByOutput, IsOfOutput, stage_of}
 use Rattle.fuun_top.specs.Texts.{letters}
@@ -57,11 +61,26 @@ compile_refused (compile.Outside number) = tt
 compile_refused compile.TooLong = tt
 compile_refused compile.NoMemory = tt
 
+assemble_refused : (error : AsmError) → IsOfOutput (stage_of (assemble_refusal error))
+assemble_refused (assemble.BadText number) = tt
+assemble_refused (assemble.Unreadable number) = tt
+assemble_refused assemble.NoMemory = tt
+
+within_refused : (over : Bool) (dna : List Base) → IsRefused (if over then Err (TooLong 0) else Ok dna)
+within_refused true dna = tt
+within_refused false dna = tt
+
+drawn_refused : (limit : ℕ) (picture : Option (List Rgb)) → IsRefused (drawn limit picture)
+drawn_refused limit None = tt
+drawn_refused limit (Some picture) = within_refused (nat_lt limit (length (drawing picture))) (drawing picture)
+
 -- a line for each verb
 made_refused : (verb : TextVerb) (text : List ℕ) (made : Result (List Base) Status) → IsMade verb text made → IsRefused made
 made_refused (texts.Patch limit) text made is =
     subst IsRefused (sym is)
     (then_refused (told patch_refusal (patches text)) _ (told_refused patch_refusal (patches text) patch_refused) (λ contents. told_refused compile_refusal (compiled contents limit) compile_refused))
+made_refused texts.Assemble text made is = subst IsRefused (sym is.tells) (told_refused assemble_refusal is.answer assemble_refused)
+made_refused (texts.Picture limit) text made is = subst IsRefused (sym is) (drawn_refused limit (picture_of text))
 
 answer_told : {A : Type 0} (text : A → List ℕ) (made : Result A Status) (output : Output) → IsRefused made → output ≡ answered text made → IsTold output
 answer_told text (Ok value) output refused is = inl (ap (λ (o : Output). stage_of o.status) is)

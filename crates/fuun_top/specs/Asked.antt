@@ -18,3 +18,5 @@ sorted (words.Draw name profile) = Rna (rna.Draw profile) name
 sorted (words.Names name profile) = Rna (rna.Names profile) name
 sorted (words.List name count) = Listing name count
 sorted (words.Patch name limit) = Text (text.Patch limit) name
+sorted (words.Assemble name) = Text text.Assemble name
+sorted (words.Picture name limit) = Text (text.Picture limit) name

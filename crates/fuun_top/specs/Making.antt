@@ -1,5 +1,5 @@
 -- What DNA is made of the text of a file.
-use Rattle.std.specs.Prelude.{◌≡◌, ℕ, Result, Ok, Err, List}
+use Rattle.std.specs.Prelude.{◌≡◌, ℕ, if◌then◌else◌, nat_lt, length, Option, Some, None, Result, Ok, Err, List}
 use Rattle.fuun_base.specs.declared.letters.Base.{Base}
 use Rattle.patch_text.specs.declared.read.PatchError.{PatchError}
 use Rattle.patch_text.specs.declared.read.PatchError.TheVariants as patch
@@ -7,10 +7,15 @@ use Rattle.patch_text.specs.Meaning.{patches}
 use Rattle.patch_compile.specs.declared.compiling.CompileError.{CompileError}
 use Rattle.patch_compile.specs.declared.compiling.CompileError.TheVariants as compile
 use Rattle.patch_compile.specs.Compiled.{compiled}
+use Rattle.assembler.specs.declared.assembling.AsmError.{AsmError}
+use Rattle.assembler.specs.declared.assembling.AsmError.TheVariants as assemble
+use Rattle.assembler.specs.Answers.{IsAssembled}
+use Rattle.picture_in.specs.Pixmap.{Rgb, picture_of}
+use Rattle.draw_compile.specs.Drawing.{drawing}
 use Rattle.fuun_top.specs.declared.request.TextVerb.{TextVerb}
-use Rattle.fuun_top.specs.declared.request.TextVerb.TheVariants.{Patch}
+use Rattle.fuun_top.specs.declared.request.TextVerb.TheVariants.{Patch, Assemble, Picture}
 use Rattle.fuun_top.specs.declared.status.Status.{Status}
-use Rattle.fuun_top.specs.declared.status.Status.TheVariants.{TooLong, BadToml, BadPatch, Outside, NoMemory}
+use Rattle.fuun_top.specs.declared.status.Status.TheVariants.{TooLong, BadToml, BadPatch, Outside, BadText, Unreadable, BadPpm, NoMemory}
 
 -- a value, or the status that tells an error
 abbrev pub told : {A E : Type 0} → (E → Status) → Result A E → Result A Status
@@ -38,6 +43,29 @@ compile_refusal compile.NoMemory = NoMemory
 abbrev pub patch_prefix : ℕ → List ℕ → Result (List Base) Status
 patch_prefix limit text = then_made (told patch_refusal (patches text)) (λ contents. told compile_refusal (compiled contents limit))
 
+-- why a text is not assembled
+abbrev pub assemble_refusal : AsmError → Status
+assemble_refusal (assemble.BadText number) = BadText number
+assemble_refusal (assemble.Unreadable number) = Unreadable number
+assemble_refusal assemble.NoMemory = NoMemory
+
+-- a text is assembled, or refused
+pub record IsAssembledText (text : List ℕ) (made : Result (List Base) Status) : Type 0 where
+  pub answer : Result (List Base) AsmError
+  pub is : IsAssembled text answer
+  pub tells : made ≡ told assemble_refusal answer
+
+-- a DNA of at most so many bases that draws a picture
+abbrev pub drawn_within : ℕ → List Base → Result (List Base) Status
+drawn_within limit dna = if nat_lt limit (length dna) then Err (TooLong 0) else Ok dna
+
+-- the DNA that draws the picture with which a file begins
+abbrev pub drawn : ℕ → Option (List Rgb) → Result (List Base) Status
+drawn limit None = Err BadPpm
+drawn limit (Some picture) = drawn_within limit (drawing picture)
+
 -- the DNA that a verb makes of a text, or the status that refuses the text
 abbrev pub IsMade : TextVerb → List ℕ → Result (List Base) Status → Type 0
 IsMade (Patch limit) text made = made ≡ patch_prefix limit text
+IsMade Assemble text made = IsAssembledText text made
+IsMade (Picture limit) text made = made ≡ drawn limit (picture_of text)

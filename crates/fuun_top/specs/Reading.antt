@@ -37,6 +37,8 @@ run_files words = words.dna ∷ prefix_files words.prefix
 -- what a text of which DNA is made is called
 abbrev pub text_file : TextVerb → InFile
 text_file (text.Patch limit) = file.Patch
+text_file text.Assemble = file.Text
+text_file (text.Picture limit) = file.Ppm
 
 -- the names of the files that are read, in order
 abbrev pub files_of : Asked → List (List ℕ)

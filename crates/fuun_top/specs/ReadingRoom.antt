@@ -12,7 +12,7 @@ use Rattle.fuun_top.specs.Stages.{stage_of, IsOfInputs}
 use Rattle.fuun_top.specs.declared.request.Asked.{Asked}
 use Rattle.fuun_top.specs.declared.request.Asked.TheVariants.{Run, Trace, Rna, Listing, Text}
 use Rattle.fuun_top.specs.declared.request.TextVerb.{TextVerb}
-use Rattle.fuun_top.specs.declared.request.TextVerb.TheVariants.{Patch}
+use Rattle.fuun_top.specs.declared.request.TextVerb.TheVariants.{Patch, Assemble, Picture}
 use Rattle.fuun_words.specs.Requests.{IsRunInRange}
 
 -- contents were judged so, or memory was wanted
@@ -35,6 +35,8 @@ pub record Reads {A : Type 0} (files : Files) (names : List (List ℕ)) (known :
 -- a limit of DNA that is made of a text is at most 2^40 bases
 abbrev pub IsTextInRange : TextVerb → Type 0
 IsTextInRange (Patch limit) = limit ≤ 2 ^ 40
+IsTextInRange Assemble = Unit {0}
+IsTextInRange (Picture limit) = limit ≤ 2 ^ 40
 
 -- the budget and the limit of a run are ones that a machine takes
 abbrev pub IsInRange : Asked → Type 0

@@ -1,9 +1,9 @@
 -- The number and the line of a status.
 use Rattle.std.specs.Prelude.{ℕ, List, [], ◌∷◌, ◌++◌, codes, decimal}
 use Rattle.fuun_top.specs.declared.status.InFile.{InFile}
-use Rattle.fuun_top.specs.declared.status.InFile.TheVariants.{Dna, Prefix, Rna, Patch}
+use Rattle.fuun_top.specs.declared.status.InFile.TheVariants.{Dna, Prefix, Rna, Patch, Text, Ppm}
 use Rattle.fuun_top.specs.declared.status.Status.{Status}
-use Rattle.fuun_top.specs.declared.status.Status.TheVariants.{Done, Usage, OutOfBudget, TooLong, BadBase, BadRna, BadToml, BadPatch, Outside, InputTooLong, ReadFault, WriteFault, NoMemory, StartTooLong}
+use Rattle.fuun_top.specs.declared.status.Status.TheVariants.{Done, Usage, OutOfBudget, TooLong, BadBase, BadRna, BadToml, BadPatch, Outside, InputTooLong, ReadFault, WriteFault, NoMemory, StartTooLong, BadText, Unreadable, BadPpm}
 
 -- the name of a file that the words name
 abbrev pub file_name : InFile → List ℕ
@@ -11,6 +11,8 @@ file_name Dna = codes "dna"
 file_name Prefix = codes "prefix"
 file_name Rna = codes "rna"
 file_name Patch = codes "patch"
+file_name Text = codes "text"
+file_name Ppm = codes "ppm"
 
 -- the exit status
 abbrev pub number_of : Status → ℕ
@@ -28,6 +30,9 @@ number_of ReadFault = 11
 number_of WriteFault = 12
 number_of NoMemory = 13
 number_of StartTooLong = 14
+number_of (BadText number) = 15
+number_of (Unreadable number) = 16
+number_of BadPpm = 19
 
 -- a line on standard error
 abbrev pub line : List ℕ → List ℕ
@@ -49,3 +54,6 @@ status_line ReadFault = line (codes "read fault")
 status_line WriteFault = line (codes "write fault")
 status_line NoMemory = line (codes "no memory")
 status_line StartTooLong = line (codes "start too long")
+status_line (BadText number) = line (codes "text: line " ++ decimal number ++ codes " is not a pair")
+status_line (Unreadable number) = line (codes "text: line " ++ decimal number ++ codes " has no DNA")
+status_line BadPpm = line (codes "ppm: refused")

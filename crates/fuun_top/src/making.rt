@@ -1,7 +1,9 @@
 // DNA that is made of the text of a file.
 ghost use Rattle.std.specs.Prelude.{◌≡◌, ◌^◌, ◌≤◌, length};
+ghost use Rattle.draw_compile.specs.Drawing.{drawing};
 ghost use Rattle.patch_compile.specs.Compiled.{compiled};
-ghost use Rattle.fuun_top.specs.Making.{IsMade, compile_refusal, patch_prefix, told};
+ghost use Rattle.picture_in.specs.Pixmap.{picture_of};
+ghost use Rattle.fuun_top.specs.Making.{IsAssembledText, IsMade, compile_refusal, drawn, drawn_within, patch_prefix, told};
 ghost use Rattle.fuun_top.specs.Output.{IsAnswer};
 ghost use Rattle.fuun_top.specs.Reading.{most_bytes};
 ghost use Rattle.fuun_top.specs.ReadingRoom.{IsTextInRange};
@@ -12,10 +14,13 @@ use crate::Status;
 use crate::letters::put_list;
 use crate::output::status_after;
 use crate::request::TextVerb;
+use assembler::{AsmError, assemble};
+use draw_compile::{DrawError, compile_picture};
 use fuun_base::{BaseList, List};
 use fuun_io::Sink;
 use patch_compile::{CompileError, compile};
 use patch_text::{PatchError, PatchFile, read_patches};
+use picture_in::{Picture, PpmError, read_ppm};
 use std::alloc::Global;
 
 /// Writes the letters of the DNA that a verb makes of a text, or answers why there is none.
@@ -44,6 +49,8 @@ fn made_of(alloc: Global, verb: TextVerb, text: &List<u8>) -> Result<BaseList, S
 {
     match verb {
         TextVerb::Patch { limit } => compiled_text(alloc, text.as_slice(), limit),
+        TextVerb::Assemble => assembled(alloc, text.as_slice()),
+        TextVerb::Picture { limit } => drawn_file(alloc, text.as_slice(), limit),
     }
 }
 
@@ -71,5 +78,42 @@ fn compiled(alloc: Global, file: &PatchFile, limit: u64) -> Result<BaseList, Sta
         Err(CompileError::Outside { index }) => Err(Status::Outside { index }),
         Err(CompileError::TooLong) => Err(Status::TooLong { attempt: 0 }),
         Err(CompileError::NoMemory) => Err(Status::NoMemory),
+    }
+}
+
+/// The DNA of a listing's text.
+fn assembled(alloc: Global, text: &[u8]) -> Result<BaseList, Status>
+    requires { length text.now ≤ most_bytes }
+    ensures { Makes (IsAssembledText text.now) result }
+{
+    match assemble(alloc, text) {
+        Ok(dna) => Ok(dna),
+        Err(AsmError::BadText { line }) => Err(Status::BadText { line }),
+        Err(AsmError::Unreadable { line }) => Err(Status::Unreadable { line }),
+        Err(AsmError::NoMemory) => Err(Status::NoMemory),
+    }
+}
+
+/// The DNA that draws the picture of a file, of at most `limit` bases.
+fn drawn_file(alloc: Global, bytes: &[u8], limit: u64) -> Result<BaseList, Status>
+    requires { limit ≤ 2 ^ 40 }
+    ensures { Makes (λ made. made ≡ drawn limit (picture_of bytes.now)) result }
+{
+    match read_ppm(alloc, bytes) {
+        Ok(picture) => drawn(alloc, &picture, limit),
+        Err(PpmError::BadPpm) => Err(Status::BadPpm),
+        Err(PpmError::NoMemory) => Err(Status::NoMemory),
+    }
+}
+
+/// The DNA that draws a picture, of at most `limit` bases.
+fn drawn(alloc: Global, picture: &Picture, limit: u64) -> Result<BaseList, Status>
+    requires { limit ≤ 2 ^ 40 }
+    ensures { Makes (λ made. made ≡ drawn_within limit (drawing picture.now)) result }
+{
+    match compile_picture(alloc, picture, limit) {
+        Ok(dna) => Ok(dna),
+        Err(DrawError::TooLong) => Err(Status::TooLong { attempt: 0 }),
+        Err(DrawError::NoMemory) => Err(Status::NoMemory),
     }
 }

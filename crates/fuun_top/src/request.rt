@@ -33,6 +33,10 @@ pub(crate) enum RnaVerb {
 pub(crate) enum TextVerb {
     /// The prefix of a patch file, of at most so many bases.
     Patch { limit: u64 },
+    /// The DNA that is read as the pairs of a listing's text.
+    Assemble,
+    /// A DNA that draws a picture, of at most so many bases.
+    Picture { limit: u64 },
 }
 
 impl TextVerb {
@@ -42,6 +46,8 @@ impl TextVerb {
     {
         match self {
             TextVerb::Patch { .. } => InFile::Patch,
+            TextVerb::Assemble => InFile::Text,
+            TextVerb::Picture { .. } => InFile::Ppm,
         }
     }
 }
@@ -76,5 +82,7 @@ pub(crate) fn sorted(request: Request) -> Asked
         Request::Names { rna, profile } => Asked::Rna(RnaVerb::Names(profile), rna),
         Request::List { dna, count } => Asked::Listing(dna, count),
         Request::Patch { file, limit } => Asked::Text(TextVerb::Patch { limit }, file),
+        Request::Assemble { text } => Asked::Text(TextVerb::Assemble, text),
+        Request::Picture { ppm, limit } => Asked::Text(TextVerb::Picture { limit }, ppm),
     }
 }

@@ -13,6 +13,8 @@ pub enum InFile {
     Prefix,
     Rna,
     Patch,
+    Text,
+    Ppm,
 }
 
 /// How a call of the program ended.
@@ -46,6 +48,12 @@ pub enum Status {
     NoMemory,
     /// The prefix and the DNA together have more bases than the limit.
     StartTooLong,
+    /// This line of the text, counted from 1, is the text of no pair.
+    BadText { line: u64 },
+    /// This line of the text, counted from 1, has a pattern that no DNA is read as.
+    Unreadable { line: u64 },
+    /// The file does not begin as a picture of 600 by 600 pixels.
+    BadPpm,
 }
 
 impl InFile {
@@ -57,6 +65,8 @@ impl InFile {
             InFile::Prefix => "prefix",
             InFile::Rna => "rna",
             InFile::Patch => "patch",
+            InFile::Text => "text",
+            InFile::Ppm => "ppm",
         }
     }
 }
@@ -81,6 +91,9 @@ impl Status {
             Status::WriteFault => 12,
             Status::NoMemory => 13,
             Status::StartTooLong => 14,
+            Status::BadText { .. } => 15,
+            Status::Unreadable { .. } => 16,
+            Status::BadPpm => 19,
         }
     }
 }
@@ -96,7 +109,9 @@ pub fn put_status<S: Sink>(status: &Status, sink: &mut S) -> Result<(), WriteFau
         Status::OutOfBudget => put_pieces(sink, &[b"fuun: out of budget\n"]),
         Status::TooLong { attempt } => put_too_long(sink, attempt),
         Status::BadBase { file, place } => put_bad_base(sink, file, place),
-        Status::BadRna { line } => { put_numbered(sink, b"rna: line ", line, b" is not a command") }
+        Status::BadRna { line } => {
+            put_numbered(sink, b"rna: line ", line, b" is not a command")
+        }
         Status::BadToml => put_pieces(sink, &[b"fuun: ", b"patch: not a TOML document", b"\n"]),
         Status::BadPatch { index } => put_numbered(sink, b"patch: row ", index, b" is refused"),
         Status::Outside { index } => {
@@ -110,6 +125,9 @@ pub fn put_status<S: Sink>(status: &Status, sink: &mut S) -> Result<(), WriteFau
         Status::WriteFault => put_pieces(sink, &[b"fuun: write fault\n"]),
         Status::NoMemory => put_pieces(sink, &[b"fuun: no memory\n"]),
         Status::StartTooLong => put_pieces(sink, &[b"fuun: start too long\n"]),
+        Status::BadText { line } => put_numbered(sink, b"text: line ", line, b" is not a pair"),
+        Status::Unreadable { line } => put_numbered(sink, b"text: line ", line, b" has no DNA"),
+        Status::BadPpm => put_pieces(sink, &[b"fuun: ppm: refused\n"]),
     }
 }
 

@@ -1,5 +1,5 @@
 -- What the words of the command line ask for.
-use Rattle.std.specs.Prelude.{◌≡◌, ℕ, ◌≤◌, ◌^◌, List, [], ◌∷◌, Option, Some, None, Result, MatchResult, codes, map, option_and_then, option_map, string_bytes, String}
+use Rattle.std.specs.Prelude.{◌≡◌, ℕ, ◌<◌, ◌≤◌, ◌-◌, ◌^◌, List, [], ◌∷◌, Option, Some, None, Result, MatchResult, codes, map, option_and_then, option_map, string_bytes, String}
 use Rattle.clap.specs.Walk.{Row, Text, first_of}
 use Rattle.fuun_words.specs.Commands.{command, found_by}
 use Rattle.fuun_words.specs.Numbers.{number, number_or, profile_or_plain}
@@ -11,7 +11,7 @@ use Rattle.fuun_words.specs.declared.request.RunWords.{RunWords}
 use Rattle.fuun_words.specs.declared.request.WordsError.{WordsError}
 use Rattle.fuun_words.specs.declared.request.WordsError.TheVariants.{Usage}
 use Rattle.fuun_words.specs.declared.verb.Verb.{Verb}
-use Rattle.fuun_words.specs.declared.verb.Verb.TheVariants.{Rna, Image, Trace, Dna, Draw, Names, List as Pairs, Patch}
+use Rattle.fuun_words.specs.declared.verb.Verb.TheVariants.{Rna, Image, Trace, Dna, Draw, Names, List as Pairs, Patch, Assemble, Picture}
 
 -- the texts of words
 abbrev pub texts : {Z : Type 0} → List (String Z) → List (List ℕ)
@@ -57,6 +57,8 @@ request_of Draw rows = both asked.Draw (first_of (codes "rna") rows) (profile_of
 request_of Names rows = both asked.Names (first_of (codes "rna") rows) (profile_of rows)
 request_of Pairs rows = both asked.List (first_of (codes "dna") rows) (number_of (codes "count") (2 ^ 40) rows)
 request_of Patch rows = both asked.Patch (first_of (codes "file") rows) (limit_of rows)
+request_of Assemble rows = option_map asked.Assemble (first_of (codes "text") rows)
+request_of Picture rows = both asked.Picture (first_of (codes "ppm") rows) (limit_of rows)
 
 -- what words ask for: nothing where they are in no form that a verb has
 abbrev pub request : List Text → Option Request
@@ -84,3 +86,5 @@ IsInRange (asked.Draw rna profile) = Unit {0}
 IsInRange (asked.Names rna profile) = Unit {0}
 IsInRange (asked.List dna count) = count ≤ 2 ^ 40
 IsInRange (asked.Patch file limit) = (1 ≤ limit) × (limit ≤ 2 ^ 40)
+IsInRange (asked.Assemble text) = Unit {0}
+IsInRange (asked.Picture ppm limit) = (1 ≤ limit) × (limit ≤ 2 ^ 40)

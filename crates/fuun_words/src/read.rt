@@ -4,7 +4,10 @@ ghost use Rattle.fuun_words.specs.Commands.{found_in};
 ghost use Rattle.fuun_words.specs.Requests.{request, request_of, run_of, texts, IsInRange, IsRunInRange, Reads};
 
 use crate::command::find_options;
-use crate::values::{MOST, budget, limit, name, profile, required_name, required_number};
+use crate::values::{
+    MOST, budget, limit, name, profile, required_name,
+    required_number,
+};
 use crate::verb::Verb;
 use crate::{Request, RunWords, WordsError};
 use clap::ArgMatches;
@@ -59,6 +62,13 @@ fn request_from(alloc: Global, verb: Verb, matches: &ArgMatches<'_>) -> Result<R
         }),
         Verb::Patch => Ok(Request::Patch {
             file: required_name(alloc, matches, "file")?,
+            limit: limit(matches)?,
+        }),
+        Verb::Assemble => Ok(Request::Assemble {
+            text: required_name(alloc, matches, "text")?,
+        }),
+        Verb::Picture => Ok(Request::Picture {
+            ppm: required_name(alloc, matches, "ppm")?,
             limit: limit(matches)?,
         }),
     }

@@ -38,6 +38,10 @@ pub enum Request {
     List { dna: Name, count: u64 },
     /// The prefix that a patch file compiles to, of at most `limit` bases: from 1 to 2^40.
     Patch { file: Name, limit: u64 },
+    /// The DNA of a listing's text.
+    Assemble { text: Name },
+    /// A DNA of at most `limit` bases that draws a picture: from 1 to 2^40.
+    Picture { ppm: Name, limit: u64 },
 }
 
 /// Why words give no request.

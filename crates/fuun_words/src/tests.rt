@@ -55,6 +55,14 @@ fn words_ask(rt: HostRuntime) -> Result<(), Fail> {
             r#"Patch { file: Name { text: "p" }, limit: 1 }"#,
         ),
         (
+            "assemble --text t",
+            r#"Assemble { text: Name { text: "t" } }"#,
+        ),
+        (
+            "picture --ppm p",
+            r#"Picture { ppm: Name { text: "p" }, limit: 67108864 }"#,
+        ),
+        (
             "trace --dna a --budget=1",
             r#"Trace(RunWords { dna: Name { text: "a" }, prefix: None, budget: 1, limit: 67108864 })"#,
         ),
@@ -104,6 +112,10 @@ fn other_words_are_refused(rt: HostRuntime) -> Result<(), Fail> {
         "patch --file p --limit 0",
         "patch --file p --limit 1099511627777",
         "patch --file p --budget 1",
+        "assemble",
+        "assemble --text t --limit 1",
+        "picture --limit 1",
+        "picture --ppm p --limit 0",
     ] {
         assert!(rt;
             matches!(asked(alloc, line)?, Err(WordsError::Usage)),

@@ -14,6 +14,8 @@ pub(crate) enum Verb {
     Names,
     List,
     Patch,
+    Assemble,
+    Picture,
 }
 
 /// Whether a verb asks for an option.
@@ -47,6 +49,10 @@ static LIST: [VerbOption; 2] = [("dna", Need::Required), ("count", Need::Require
 
 static PATCH: [VerbOption; 2] = [("file", Need::Required), ("limit", Need::Optional)];
 
+static ASSEMBLE: [VerbOption; 1] = [("text", Need::Required)];
+
+static PICTURE: [VerbOption; 2] = [("ppm", Need::Required), ("limit", Need::Optional)];
+
 impl Verb {
     /// The verb of this name.
     pub(crate) fn of(word: &str) -> Option<Verb>
@@ -61,6 +67,8 @@ impl Verb {
             "names" => Some(Verb::Names),
             "list" => Some(Verb::List),
             "patch" => Some(Verb::Patch),
+            "assemble" => Some(Verb::Assemble),
+            "picture" => Some(Verb::Picture),
             _ => None,
         }
     }
@@ -75,6 +83,8 @@ impl Verb {
             Verb::Draw | Verb::Names => DRAW.as_slice(),
             Verb::List => LIST.as_slice(),
             Verb::Patch => PATCH.as_slice(),
+            Verb::Assemble => ASSEMBLE.as_slice(),
+            Verb::Picture => PICTURE.as_slice(),
         }
     }
 }

@@ -1,4 +1,4 @@
-use Rattle.fuun_top.proofs.TopLemmas.{asked_output, read_output, refused_answer, refused_whole, wrote_answer, wrote_whole, wrote_part, wrote_grows, none_grows}
+use Rattle.fuun_top.proofs.TopLemmas.{asked_output, read_output, refused_answer, refused_whole, wrote_answer, wrote_whole, wrote_nothing, wrote_part, wrote_grows, none_grows}
 use Rattle.fuun_top.proofs.StepLemmas.{call_ticked, none_ticked}
 use Rattle.fuun_top.proofs.top.fuun.Goals as goal
 
@@ -40,3 +40,6 @@ returns-in-Ok-read_inputs-clause-grows g c = wrote_grows _ _ _ _ _ _ c.put_outpu
 
 pub returns-clause-grows : goal.returns-clause-grows
 returns-clause-grows g c = none_grows _
+
+pub returns-in-Ok-read_inputs-clause-nothing : goal.returns-in-Ok-read_inputs-clause-nothing
+returns-in-Ok-read_inputs-clause-nothing g c refusal = wrote_nothing c.in-Ok-read_inputs.inputs _ _ _ _ _ c.put_output.ensures.wrote refusal

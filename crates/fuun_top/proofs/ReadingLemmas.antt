@@ -1,0 +1,40 @@
+-- A reading that was refused.
+use Rattle.std.proofs.Common.{◌≡◌, ◌⊎◌, inl, inr, ℕ, Option, Some, None, Result, Ok, Err, List, IfSome}
+use Rattle.fuun_top.specs.declared.status.Status.{Status}
+use Rattle.fuun_top.specs.declared.status.Status.TheVariants.{ReadFault, NoMemory}
+use Rattle.fuun_top.specs.Reading.{Files, Reading, then_read}
+use Rattle.fuun_top.specs.ReadingRoom.{Reads}
+
+-- the answer is what is known to be read, or memory was wanted, or a read failed
+abbrev Agree : {A : Type 0} → Reading A → Result A Status → Type 0
+Agree known result = IfSome known (λ read. (result ≡ read) ⊎ (result ≡ Err NoMemory) ⊎ (result ≡ Err ReadFault))
+
+want_agrees : {B : Type 0} (known : Reading B) (status : Status) → status ≡ NoMemory → Agree known (Err status)
+want_agrees None status is = tt
+want_agrees (Some read) status is = inr (inl (cc is))
+
+fault_agrees : {B : Type 0} (known : Reading B) (status : Status) → status ≡ ReadFault → Agree known (Err status)
+fault_agrees None status is = tt
+fault_agrees (Some read) status is = inr (inr (cc is))
+
+refusal_agrees : {A B : Type 0} (known : Reading A) (next : A → Reading B) (status : Status) → Agree known (Err status) → Agree (then_read known next) (Err status)
+refusal_agrees None next status agrees = tt
+refusal_agrees (Some (Err refused)) next status (inl e) = inl (cc e)
+refusal_agrees (Some (Err refused)) next status (inr (inl e)) = inr (inl (cc e))
+refusal_agrees (Some (Err refused)) next status (inr (inr e)) = inr (inr (cc e))
+refusal_agrees (Some (Ok value)) next status (inl e) = absurd (cc e)
+refusal_agrees (Some (Ok value)) next status (inr (inl e)) = want_agrees (next value) status (cc e)
+refusal_agrees (Some (Ok value)) next status (inr (inr e)) = fault_agrees (next value) status (cc e)
+
+-- what comes behind it is refused too
+pub reads_refused : {A B : Type 0} (files : Files) (names more : List (List ℕ)) (known : Reading A) (next : A → Reading B) (status : Status) (given_old given_new faults_old faults_new : ℕ)
+    → Reads files names known (Err status) given_old given_new faults_old faults_new → Reads files more (then_read known next) (Err status) given_old given_new faults_old faults_new
+reads_refused files names more known next status given_old given_new faults_old faults_new reads = record {
+  agrees = refusal_agrees known next status reads.agrees;
+  refused = reads.refused;
+  given = tt;
+  too_long = λ file e. reads.too_long file (cc e);
+  rises = reads.rises;
+  fault = λ e. reads.fault (cc e);
+  no_fault = λ other. reads.no_fault (λ e. other (cc e));
+}
