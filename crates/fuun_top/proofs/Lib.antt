@@ -1,4 +1,6 @@
 pub mod LetterLemmas
+pub mod LoadLemmas
+pub mod MarkLemmas
 pub mod DrawingLemmas
 pub mod OneOutput
 pub mod WrittenOutput

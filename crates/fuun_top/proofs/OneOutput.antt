@@ -26,18 +26,20 @@ use Rattle.fuun_top.specs.declared.status.InFile.{InFile}
 use Rattle.fuun_top.specs.declared.status.InFile.TheVariants as file
 use Rattle.fuun_top.specs.declared.status.Status.{Status}
 use Rattle.fuun_top.specs.declared.status.Status.TheVariants.{Done, Usage}
-use Rattle.fuun_top.specs.Output.{Output, Body, Text, Drawing, IsBody, IsRunOutput, IsTraceOutput, IsListingOutput, IsAnswer, IsOutputOf, answered, OutputBy, OutputOf, plain_body, run_body, spent_is_done, status_by, refusal, picture_side, most_layers}
+use Rattle.fuun_top.specs.Output.{Output, Body, Text, Drawing, IsBody, IsRunOutput, IsTraceOutput, IsListingOutput, IsBenchOutput, IsAnswer, IsOutputOf, answered, OutputBy, OutputOf, plain_body, run_body, spent_is_done, status_by, refusal, picture_side, most_layers}
 use Rattle.fuun_top.specs.Making.{IsMade, assemble_refusal, drawn, patch_prefix, told}
+use Rattle.fuun_top.specs.Bench.{load_dna, load_limit, summary_of}
 use Rattle.fuun_top.specs.OutputLaws.{IsTold, AreTold, HasOutput, HasOneOutput}
 use Rattle.fuun_top.specs.Reading.{Files, Reading, then_read, within, bytes_in, dna_in, judged_dna, prefix_in, prefix_files, files_of, rna_in, judged_rna, start_in, text_file, inputs_of}
 use Rattle.fuun_top.specs.Asked.{sorted}
 use Rattle.fuun_top.specs.declared.request.Asked.{Asked}
-use Rattle.fuun_top.specs.declared.request.Asked.TheVariants.{Run as asked_run, Trace as asked_trace, Rna as asked_rna, Listing as asked_listing, Text as asked_text}
+use Rattle.fuun_top.specs.declared.request.Asked.TheVariants.{Run as asked_run, Trace as asked_trace, Rna as asked_rna, Listing as asked_listing, Text as asked_text, Bench as asked_bench}
 use Rattle.fuun_words.specs.declared.request.Request.{Request}
 use Rattle.fuun_words.specs.declared.request.RunWords.{RunWords}
 use Rattle.fuun_words.specs.Requests.{request}
 use Rattle.fuun_top.specs.Texts.{letters}
 use Rattle.tracer.specs.Lines.{trace_text}
+use Rattle.workload.specs.Summary.{summary_text}
 
 -- what has an output, and what has only one
 abbrev pub Has : (Output → Type 0) → Type 0
@@ -97,6 +99,15 @@ listing_one : (dna : List Base) (count : ℕ) → HasOne (IsListingOutput dna co
 listing_one dna count a b p q =
     p.is ∙ ap (λ (text : List ℕ). record { status = Done; bytes = text }) (one_listing dna count p.text q.text p.lists q.lists) ∙ sym q.is
 
+bench_has : (seed size rounds : ℕ) → Has (IsBenchOutput seed size rounds)
+bench_has seed size rounds =
+    let run = has_run load_limit rounds (load_dna seed size rounds) in
+    (record { status = Done; bytes = summary_text (summary_of run.0) }, record { run = run.0; is = run.1; tells = refl })
+
+bench_one : (seed size rounds : ℕ) → HasOne (IsBenchOutput seed size rounds)
+bench_one seed size rounds a b p q =
+    p.tells ∙ ap (λ (run : Run). record { status = Done; bytes = summary_text (summary_of run) }) (one_run load_limit rounds (load_dna seed size rounds) p.run q.run p.is q.is) ∙ sym q.tells
+
 -- what is made so has an output, and only one
 answer_has : {A : Type 0} (Is : Result A Status → Type 0) (text : A → List ℕ) → ((made : Result A Status) × Is made) → Has (IsAnswer Is text)
 answer_has Is text (made, is) = (answered text made, record { made = made; is = is; tells = refl })
@@ -120,6 +131,7 @@ output_has (inputs.Trace dna budget limit) = trace_has dna budget limit
 output_has (inputs.Plain plain) = body_has Done (plain_body plain)
 output_has (inputs.Listing dna count) = listing_has dna count
 output_has (inputs.Text verb text) = answer_has (IsMade verb text) letters (made_has verb text)
+output_has (inputs.Bench seed size rounds) = bench_has seed size rounds
 
 pub output_one : (inputs : Inputs) → HasOne (IsOutputOf inputs)
 output_one (inputs.Run verb dna budget limit) = run_one verb dna budget limit
@@ -127,6 +139,7 @@ output_one (inputs.Trace dna budget limit) = trace_one dna budget limit
 output_one (inputs.Plain plain) = body_one Done (plain_body plain)
 output_one (inputs.Listing dna count) = listing_one dna count
 output_one (inputs.Text verb text) = answer_one (IsMade verb text) letters (made_one verb text)
+output_one (inputs.Bench seed size rounds) = bench_one seed size rounds
 
 -- it is known what is read
 abbrev Known : {A : Type 0} → Reading A → Type 0
@@ -167,6 +180,7 @@ inputs_known files (asked_trace words) told =
 inputs_known files (asked_rna verb name) told = then_known (rna_in files name) _ (rna_known files name told.0) (λ commands. (_, refl))
 inputs_known files (asked_listing name count) told = then_known (dna_in files file.Dna name) _ (dna_known files file.Dna name told.0) (λ dna. (_, refl))
 inputs_known files (asked_text verb name) told = then_known (bytes_in files (text_file verb) name) _ (bytes_known files (text_file verb) name told.0) (λ contents. (_, refl))
+inputs_known files (asked_bench seed size rounds) told = (_, refl)
 
 by_has : (reading : Reading Inputs) → Known reading → Has (OutputBy reading)
 by_has None (read, is) = absurd (cc is)

@@ -35,6 +35,7 @@ none_of_inputs (inputs.Trace dna budget limit) old = λ run total is weigh. (ome
 none_of_inputs (inputs.Plain plain) old = refl
 none_of_inputs (inputs.Listing dna count) old = (omega arith, omega arith)
 none_of_inputs (inputs.Text verb text) old = refl
+none_of_inputs (inputs.Bench seed size rounds) old = λ run total is weigh. (omega arith, omega arith)
 
 none_of_reading : (known : Reading Inputs) (old : ℕ) → ReadingTicks known old old
 none_of_reading None old = tt

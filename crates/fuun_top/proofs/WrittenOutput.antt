@@ -19,10 +19,13 @@ use Rattle.fuun_top.specs.declared.request.RunVerb.{RunVerb}
 use Rattle.fuun_top.specs.declared.request.RunVerb.TheVariants as verbs
 use Rattle.fuun_top.specs.declared.status.Status.{Status}
 use Rattle.fuun_top.specs.declared.status.Status.TheVariants.{Done, WriteFault, NoMemory}
-use Rattle.fuun_top.specs.Output.{Output, Text, Drawing, IsBody, IsRunOutput, IsTraceOutput, IsListingOutput, IsAnswer, plain_body, refusal, status_by, picture_side, most_layers}
+use Rattle.fuun_top.specs.Output.{Output, Text, Drawing, IsBody, IsRunOutput, IsTraceOutput, IsListingOutput, IsBenchOutput, IsAnswer, plain_body, refusal, status_by, picture_side, most_layers}
 use Rattle.fuun_top.specs.Texts.{letters}
-use Rattle.fuun_top.specs.WritingRoom.{Wrote, Whole, CutOff, SpentRoom, NoRoom, Makes, DrewRun, IsImageOf, status_after, status_listed, status_traced}
+use Rattle.fuun_top.specs.WritingRoom.{Wrote, Whole, CutOff, SpentRoom, NoRoom, Makes, Sums, DrewRun, IsImageOf, status_after, status_listed, status_traced}
 use Rattle.tracer.specs.Lines.{trace_text}
+use Rattle.workload.specs.declared.summary.Summary.{Summary}
+use Rattle.workload.specs.Summary.{summary_text}
+use Rattle.fuun_top.specs.Bench.{load_dna, load_limit}
 use Rattle.tracer.specs.Traced.{IsTraced}
 use Rattle.listing.specs.declared.pairs.ListError.{ListError}
 use Rattle.listing.specs.declared.pairs.ListError.TheVariants as listing
@@ -146,6 +149,14 @@ listing_put dna count (Err listing.WriteFault) result old new before after put r
     CutOff (record { status = Done; bytes = put.text }) (record { text = put.text; lists = put.is; is = refl }) told put.puts (rose refl)
 listing_put dna count (Err listing.NoMemory) result old new before after put rose kept told =
     SpentRoom (record { status = Done; bytes = put.text }) (record { text = put.text; lists = put.is; is = refl }) told put.puts (kept (λ e. cc e))
+
+-- what is told of a run on a load was put, whole or in part
+pub summary_put : {T E : Type 0} (seed size rounds : ℕ) (summary : Summary) (written : Result T E) (result : Status) (old new : Option (List ℕ)) (before after : ℕ)
+    → Sums (load_dna seed size rounds) rounds load_limit summary → result ≡ status_after written Done → Puts written old new (summary_text summary) → HasCause before after written
+    → Wrote (IsBenchOutput seed size rounds) result old new before after
+summary_put seed size rounds summary written result old new before after sums told puts cause =
+    output_put (IsBenchOutput seed size rounds) (record { status = Done; bytes = summary_text summary }) written result old new before after
+    (record { run = sums.run; is = sums.is; tells = ap (λ (s : Summary). record { status = Done; bytes = summary_text s }) sums.tells }) told puts cause
 
 -- a traced run was put, whole or in part
 traced_put : (old new : State) (budget : ℕ) (traced : Result RunEnd ListError) (result : Status) (told now : Option (List ℕ)) (before after : ℕ)

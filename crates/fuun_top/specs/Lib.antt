@@ -3,6 +3,7 @@ pub mod Stages
 pub mod Texts
 pub mod Reading
 pub mod Making
+pub mod Bench
 pub mod Output
 pub mod Answer
 pub mod Asked

@@ -24,6 +24,8 @@ use Rattle.fuun_top.specs.declared.status.Status.{Status}
 use Rattle.fuun_top.specs.declared.status.Status.TheVariants.{Done, Usage, OutOfBudget, TooLong}
 use Rattle.fuun_top.specs.Reading.{Files, Reading, inputs_of}
 use Rattle.fuun_top.specs.Making.{IsMade}
+use Rattle.fuun_top.specs.Bench.{load_dna, load_limit, summary_of}
+use Rattle.workload.specs.Summary.{summary_text}
 use Rattle.fuun_top.specs.Asked.{sorted}
 use Rattle.fuun_top.specs.Texts.{letters}
 use Rattle.fuun_words.specs.declared.request.Request.{Request}
@@ -106,6 +108,12 @@ pub record IsListingOutput (dna : List Base) (count : ℕ) (output : Output) : T
   pub lists : IsListing dna count text
   pub is : output ≡ record { status = Done; bytes = text }
 
+-- the output is what is told of the run on a load, whatever ended it: an attempt for each of its patches
+pub record IsBenchOutput (seed size rounds : ℕ) (output : Output) : Type 0 where
+  pub run : Run
+  pub is : IsRun (load_dna seed size rounds) rounds load_limit run
+  pub tells : output ≡ record { status = Done; bytes = summary_text (summary_of run) }
+
 -- the text of a value, or a refusal
 abbrev pub answered : {A : Type 0} → (A → List ℕ) → Result A Status → Output
 answered text (Ok value) = record { status = Done; bytes = text value }
@@ -124,6 +132,7 @@ IsOutputOf (inputs.Trace dna budget limit) output = IsTraceOutput dna budget lim
 IsOutputOf (inputs.Plain plain) output = IsBody Done (plain_body plain) output
 IsOutputOf (inputs.Listing dna count) output = IsListingOutput dna count output
 IsOutputOf (inputs.Text verb text) output = IsAnswer (IsMade verb text) letters output
+IsOutputOf (inputs.Bench seed size rounds) output = IsBenchOutput seed size rounds output
 
 -- the output of what was read, where that is known
 abbrev pub OutputBy : Reading Inputs → Output → Type 0

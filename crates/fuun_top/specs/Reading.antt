@@ -12,7 +12,7 @@ use Rattle.fuun_top.specs.declared.status.InFile.TheVariants as file
 use Rattle.fuun_top.specs.declared.status.Status.{Status}
 use Rattle.fuun_top.specs.declared.status.Status.TheVariants.{BadBase, BadRna, InputTooLong, StartTooLong}
 use Rattle.fuun_top.specs.declared.request.Asked.{Asked}
-use Rattle.fuun_top.specs.declared.request.Asked.TheVariants.{Run, Trace, Rna, Listing, Text}
+use Rattle.fuun_top.specs.declared.request.Asked.TheVariants.{Run, Trace, Rna, Listing, Text, Bench}
 use Rattle.fuun_top.specs.declared.request.TextVerb.{TextVerb}
 use Rattle.fuun_top.specs.declared.request.TextVerb.TheVariants as text
 use Rattle.fuun_words.specs.declared.request.RunWords.{RunWords}
@@ -47,6 +47,7 @@ files_of (Trace words) = run_files words
 files_of (Rna verb name) = name ∷ []
 files_of (Listing name count) = name ∷ []
 files_of (Text verb name) = name ∷ []
+files_of (Bench seed size rounds) = []
 
 -- what is read: none where contents that it needs are not told, else a value or a refusal
 abbrev pub Reading : Type 0 → Type 0
@@ -111,3 +112,4 @@ inputs_of files (Listing name count) =
     then_read (dna_in files file.Dna name) (λ dna. Some (Ok (inputs.Listing dna count)))
 inputs_of files (Text verb name) =
     then_read (bytes_in files (text_file verb) name) (λ contents. Some (Ok (inputs.Text verb contents)))
+inputs_of files (Bench seed size rounds) = Some (Ok (inputs.Bench seed size rounds))

@@ -1,5 +1,5 @@
 -- What each function that reads promises.
-use Rattle.std.specs.Prelude.{◌≡◌, ◌≢◌, ◌⊎◌, ℕ, ◌+◌, ◌^◌, ◌≤◌, Result, Err, List, IfOk, IfErr, IfSome, length}
+use Rattle.std.specs.Prelude.{◌≡◌, ◌≢◌, ◌⊎◌, ℕ, ◌+◌, ◌^◌, ◌<◌, ◌≤◌, Result, Err, List, IfOk, IfErr, IfSome, length}
 use Rattle.fuun_io.specs.Counts.{raised, Rose}
 use Rattle.fuun_top.specs.declared.inputs.Inputs.{Inputs}
 use Rattle.fuun_top.specs.declared.inputs.Inputs.TheVariants as inputs
@@ -10,7 +10,7 @@ use Rattle.fuun_top.specs.Answer.{told_bytes}
 use Rattle.fuun_top.specs.Reading.{Files, Reading, most_bytes}
 use Rattle.fuun_top.specs.Stages.{stage_of, IsOfInputs}
 use Rattle.fuun_top.specs.declared.request.Asked.{Asked}
-use Rattle.fuun_top.specs.declared.request.Asked.TheVariants.{Run, Trace, Rna, Listing, Text}
+use Rattle.fuun_top.specs.declared.request.Asked.TheVariants.{Run, Trace, Rna, Listing, Text, Bench}
 use Rattle.fuun_top.specs.declared.request.TextVerb.{TextVerb}
 use Rattle.fuun_top.specs.declared.request.TextVerb.TheVariants.{Patch, Assemble, Picture}
 use Rattle.fuun_words.specs.Requests.{IsRunInRange}
@@ -38,6 +38,10 @@ IsTextInRange (Patch limit) = limit ≤ 2 ^ 40
 IsTextInRange Assemble = Unit {0}
 IsTextInRange (Picture limit) = limit ≤ 2 ^ 40
 
+-- the numbers of a load are ones that it is drawn from
+abbrev pub IsLoadInRange : ℕ → ℕ → ℕ → Type 0
+IsLoadInRange seed size rounds = (seed < 2 ^ 31) × (size ≤ 2 ^ 24) × (rounds ≤ 2 ^ 16)
+
 -- the budget and the limit of a run are ones that a machine takes
 abbrev pub IsInRange : Asked → Type 0
 IsInRange (Run verb words) = IsRunInRange words
@@ -45,6 +49,7 @@ IsInRange (Trace words) = IsRunInRange words
 IsInRange (Rna verb name) = Unit {0}
 IsInRange (Listing name count) = Unit {0}
 IsInRange (Text verb name) = IsTextInRange verb
+IsInRange (Bench seed size rounds) = IsLoadInRange seed size rounds
 
 -- so are those of what was read, and the DNA is within the limit; what is listed or a text is no longer than a file may be
 abbrev pub AreInRange : Inputs → Type 0
@@ -53,3 +58,4 @@ AreInRange (inputs.Trace dna budget limit) = (budget ≤ 2 ^ 40) × (1 ≤ limit
 AreInRange (inputs.Plain plain) = Unit {0}
 AreInRange (inputs.Listing dna count) = length dna ≤ most_bytes
 AreInRange (inputs.Text verb text) = IsTextInRange verb × (length text ≤ most_bytes)
+AreInRange (inputs.Bench seed size rounds) = IsLoadInRange seed size rounds

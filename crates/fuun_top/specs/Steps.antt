@@ -8,6 +8,7 @@ use Rattle.exec_loop.specs.Weights.{WeighTogether}
 use Rattle.fuun_top.specs.declared.inputs.Inputs.{Inputs}
 use Rattle.fuun_top.specs.declared.inputs.Inputs.TheVariants as inputs
 use Rattle.fuun_top.specs.Asked.{sorted}
+use Rattle.fuun_top.specs.Bench.{load_dna, load_limit}
 use Rattle.fuun_top.specs.Reading.{Files, Reading, inputs_of}
 use Rattle.fuun_words.specs.declared.request.Request.{Request}
 
@@ -25,13 +26,14 @@ RunTicks dna budget limit old new =
     (run : Run) (total : ℕ) → IsRun dna budget limit run → WeighTogether (most_height limit) dna run.attempts total
     → Ticks old new (start_steps (length dna) + total)
 
--- a run makes its nodes, and a listing those of its DNA; else none is made
+-- a run makes its nodes, one on a load too, and a listing those of its DNA; else none is made
 abbrev pub InputsTick : Inputs → ℕ → ℕ → Type 0
 InputsTick (inputs.Run verb dna budget limit) old new = RunTicks dna budget limit old new
 InputsTick (inputs.Trace dna budget limit) old new = RunTicks dna budget limit old new
 InputsTick (inputs.Plain plain) old new = new ≡ old
 InputsTick (inputs.Listing dna count) old new = Ticks old new (start_steps (length dna))
 InputsTick (inputs.Text verb text) old new = new ≡ old
+InputsTick (inputs.Bench seed size rounds) old new = RunTicks (load_dna seed size rounds) rounds load_limit old new
 
 -- nor where the inputs are refused
 abbrev pub ReadingTicks : Reading Inputs → ℕ → ℕ → Type 0

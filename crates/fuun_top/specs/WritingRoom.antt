@@ -11,6 +11,8 @@ use Rattle.rna_code.specs.Commands.{act_of}
 use Rattle.fuun_top.specs.declared.status.Status.{Status}
 use Rattle.fuun_top.specs.declared.status.Status.TheVariants.{Done, WriteFault, NoMemory}
 use Rattle.fuun_top.specs.Output.{Output, IsPictureOf, status_by}
+use Rattle.fuun_top.specs.Bench.{summary_of}
+use Rattle.workload.specs.declared.summary.Summary.{Summary}
 use Rattle.listing.specs.declared.pairs.ListError.{ListError}
 use Rattle.listing.specs.declared.pairs.ListError.TheVariants as listing
 
@@ -38,6 +40,12 @@ pub record IsImageOf (side most : ℕ) (profile : Profile) (dna : List Base) (bu
   pub run : Run
   pub is : IsRun dna budget limit run
   pub writes : IsPictureOf side most profile run.rna (status_by false run.end) output
+
+-- this is told of the run of a DNA
+pub record Sums (dna : List Base) (budget limit : ℕ) (summary : Summary) : Type 0 where
+  pub run : Run
+  pub is : IsRun dna budget limit run
+  pub tells : summary ≡ summary_of run
 
 -- the status that comes with what was written
 abbrev pub status_after : {T E : Type 0} → Result T E → Status → Status

@@ -40,6 +40,12 @@ pub(crate) enum Inputs {
         verb: TextVerb,
         text: List<u8>,
     },
+    /// A run on a load: a target of `size` bases, and `rounds` patches.
+    Bench {
+        seed: u64,
+        size: u64,
+        rounds: u64,
+    },
 }
 
 /// What is worked on without a run. Its output always ends in `Done`.
@@ -67,6 +73,11 @@ pub(crate) fn read_inputs<F: Folder>(
         Asked::Rna(verb, name) => read_commands(alloc, folder, *verb, name.as_str()),
         Asked::Listing(name, count) => read_listed(alloc, folder, name.as_str(), *count),
         Asked::Text(verb, name) => read_text(alloc, folder, *verb, name.as_str()),
+        Asked::Bench { seed, size, rounds } => Ok(Inputs::Bench {
+            seed: *seed,
+            size: *size,
+            rounds: *rounds,
+        }),
     }
 }
 
@@ -149,7 +160,7 @@ fn start(alloc: Global, prefix: BaseList, dna: BaseList, limit: u64) -> Result<B
 }
 
 /// The bases of a prefix followed by those of a DNA.
-fn joined(alloc: Global, prefix: BaseList, dna: BaseList) -> Result<BaseList, NoMemory>
+pub(crate) fn joined(alloc: Global, prefix: BaseList, dna: BaseList) -> Result<BaseList, NoMemory>
     ensures { IfOk result (λ bases. bases ≡ prefix ++ dna) }
 {
     if prefix.is_empty() {

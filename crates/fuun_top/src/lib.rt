@@ -1,6 +1,7 @@
 //! The top call: words, a folder and a sink in, a status and bytes out.
 #![tactic(auto)]
 
+mod bench;
 mod files;
 mod inputs;
 pub mod laws;

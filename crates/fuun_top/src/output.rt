@@ -8,6 +8,7 @@ ghost use Rattle.fuun_top.specs.Steps.{InputsTick, RunTicks};
 ghost use Rattle.fuun_top.specs.WritingRoom.{Wrote, status_after};
 
 use crate::Status;
+use crate::bench::put_bench;
 use crate::inputs::{Inputs, Plain};
 use crate::listed::put_listing;
 use crate::making::put_text;
@@ -44,6 +45,7 @@ pub(crate) fn put_output<S: Sink, L: Ledger>(
         Inputs::Plain(plain) => put_plain(alloc, &plain, out),
         Inputs::Listing { dna, count } => put_listing(alloc, dna, count, out, steps),
         Inputs::Text { verb, text } => put_text(alloc, verb, &text, out),
+        Inputs::Bench { seed, size, rounds } => put_bench(alloc, seed, size, rounds, out, steps),
     }
 }
 

@@ -65,6 +65,8 @@ pub(crate) enum Asked {
     Listing(Name, u64),
     /// The DNA that is made of a text, by its file's name.
     Text(TextVerb, Name),
+    /// A run on a load that is drawn from a seed.
+    Bench { seed: u64, size: u64, rounds: u64 },
 }
 
 /// Sorts a request by what it works on.
@@ -82,6 +84,7 @@ pub(crate) fn sorted(request: Request) -> Asked
         Request::Names { rna, profile } => Asked::Rna(RnaVerb::Names(profile), rna),
         Request::List { dna, count } => Asked::Listing(dna, count),
         Request::Patch { file, limit } => Asked::Text(TextVerb::Patch { limit }, file),
+        Request::Bench { seed, size, rounds } => Asked::Bench { seed, size, rounds },
         Request::Assemble { text } => Asked::Text(TextVerb::Assemble, text),
         Request::Picture { ppm, limit } => Asked::Text(TextVerb::Picture { limit }, ppm),
     }

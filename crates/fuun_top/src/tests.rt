@@ -397,6 +397,36 @@ fn prefixes_carry_patches_out(rt: HostRuntime) -> Result<(), Fail> {
 }
 
 #[test]
+fn summaries_of_loads(rt: HostRuntime) -> Result<(), Fail> {
+    for (line, bytes) in [
+        (
+            "bench --seed 0 --size 2 --rounds 1",
+            b"attempts 1\nlength 3\ni 2\nc 0\nf 1\np 0\nrna 0\nmark 995\n".as_slice(),
+        ),
+        (
+            "bench --seed 0 --size 0 --rounds 0",
+            b"attempts 0\nlength 0\ni 0\nc 0\nf 0\np 0\nrna 0\nmark 0\n",
+        ),
+        (
+            "bench --seed 2147483647 --size 5000 --rounds 60",
+            b"attempts 60\nlength 4790\ni 1149\nc 1222\nf 1234\np 1185\nrna 0\nmark 3971663213\n",
+        ),
+    ] {
+        let words = words(rt.alloc(), line)?;
+        expect::<Brand>(
+            &rt,
+            rt.alloc(),
+            Blank::new(1),
+            &words,
+            b"",
+            Status::Done,
+            bytes,
+        )?;
+    }
+    Ok(())
+}
+
+#[test]
 fn limits_are_kept(rt: HostRuntime) -> Result<(), Fail> {
     let whole = b"IIPIPIIICPIICIICIFPPIFPPIFPPIFPPIFPPIFPPIFPPIICCCCCCCCC\n".as_slice();
     for (line, status, bytes) in [

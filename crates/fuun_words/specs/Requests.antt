@@ -11,7 +11,7 @@ use Rattle.fuun_words.specs.declared.request.RunWords.{RunWords}
 use Rattle.fuun_words.specs.declared.request.WordsError.{WordsError}
 use Rattle.fuun_words.specs.declared.request.WordsError.TheVariants.{Usage}
 use Rattle.fuun_words.specs.declared.verb.Verb.{Verb}
-use Rattle.fuun_words.specs.declared.verb.Verb.TheVariants.{Rna, Image, Trace, Dna, Draw, Names, List as Pairs, Patch, Assemble, Picture}
+use Rattle.fuun_words.specs.declared.verb.Verb.TheVariants.{Rna, Image, Trace, Dna, Draw, Names, List as Pairs, Patch, Bench, Assemble, Picture}
 
 -- the texts of words
 abbrev pub texts : {Z : Type 0} → List (String Z) → List (List ℕ)
@@ -42,6 +42,15 @@ abbrev pub run_of : List Row → Option RunWords
 run_of rows =
     run (first_of (codes "dna") rows) (first_of (codes "prefix") rows) (budget_of rows) (limit_of rows)
 
+-- what the words of a load ask for, where each of them is there
+abbrev pub bench : Option ℕ → Option ℕ → Option ℕ → Option Request
+bench (Some seed) (Some size) (Some rounds) = Some (asked.Bench seed size rounds)
+bench _ _ _ = None
+
+abbrev pub bench_of : List Row → Option Request
+bench_of rows =
+    bench (number_of (codes "seed") (2 ^ 31 - 1) rows) (number_of (codes "size") (2 ^ 24) rows) (number_of (codes "rounds") (2 ^ 16) rows)
+
 -- what two values make, where both are there
 abbrev pub both : {A B C : Type 0} → (A → B → C) → Option A → Option B → Option C
 both make (Some a) (Some b) = Some (make a b)
@@ -57,6 +66,7 @@ request_of Draw rows = both asked.Draw (first_of (codes "rna") rows) (profile_of
 request_of Names rows = both asked.Names (first_of (codes "rna") rows) (profile_of rows)
 request_of Pairs rows = both asked.List (first_of (codes "dna") rows) (number_of (codes "count") (2 ^ 40) rows)
 request_of Patch rows = both asked.Patch (first_of (codes "file") rows) (limit_of rows)
+request_of Bench rows = bench_of rows
 request_of Assemble rows = option_map asked.Assemble (first_of (codes "text") rows)
 request_of Picture rows = both asked.Picture (first_of (codes "ppm") rows) (limit_of rows)
 
@@ -86,5 +96,6 @@ IsInRange (asked.Draw rna profile) = Unit {0}
 IsInRange (asked.Names rna profile) = Unit {0}
 IsInRange (asked.List dna count) = count ≤ 2 ^ 40
 IsInRange (asked.Patch file limit) = (1 ≤ limit) × (limit ≤ 2 ^ 40)
+IsInRange (asked.Bench seed size rounds) = (seed < 2 ^ 31) × (size ≤ 2 ^ 24) × (rounds ≤ 2 ^ 16)
 IsInRange (asked.Assemble text) = Unit {0}
 IsInRange (asked.Picture ppm limit) = (1 ≤ limit) × (limit ≤ 2 ^ 40)

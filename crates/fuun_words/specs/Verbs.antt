@@ -5,7 +5,7 @@ use Rattle.clap.specs.Walk.{Text}
 use Rattle.fuun_words.specs.Commands.{VerbOption}
 use Rattle.fuun_words.specs.declared.verb.Need.TheVariants.{Required, Optional}
 use Rattle.fuun_words.specs.declared.verb.Verb.{Verb}
-use Rattle.fuun_words.specs.declared.verb.Verb.TheVariants.{Rna, Image, Trace, Dna, Draw, Names, List as Pairs, Patch, Assemble, Picture}
+use Rattle.fuun_words.specs.declared.verb.Verb.TheVariants.{Rna, Image, Trace, Dna, Draw, Names, List as Pairs, Patch, Bench, Assemble, Picture}
 
 -- the verbs by their names
 abbrev pub verbs : List (Text × Verb)
@@ -18,6 +18,7 @@ verbs =
     ∷ (codes "names", Names)
     ∷ (codes "list", Pairs)
     ∷ (codes "patch", Patch)
+    ∷ (codes "bench", Bench)
     ∷ (codes "assemble", Assemble)
     ∷ (codes "picture", Picture)
     ∷ []
@@ -42,5 +43,6 @@ options_of Draw = (codes "rna", Required) ∷ (codes "profile", Optional) ∷ []
 options_of Names = (codes "rna", Required) ∷ (codes "profile", Optional) ∷ []
 options_of Pairs = (codes "dna", Required) ∷ (codes "count", Required) ∷ []
 options_of Patch = (codes "file", Required) ∷ (codes "limit", Optional) ∷ []
+options_of Bench = (codes "seed", Required) ∷ (codes "size", Required) ∷ (codes "rounds", Required) ∷ []
 options_of Assemble = (codes "text", Required) ∷ []
 options_of Picture = (codes "ppm", Required) ∷ (codes "limit", Optional) ∷ []

@@ -1,11 +1,11 @@
 //! From words to a request.
 ghost use Rattle.std.specs.Prelude.{◌≡◌, IfErr, IfOk, None, Some};
 ghost use Rattle.fuun_words.specs.Commands.{found_in};
-ghost use Rattle.fuun_words.specs.Requests.{request, request_of, run_of, texts, IsInRange, IsRunInRange, Reads};
+ghost use Rattle.fuun_words.specs.Requests.{bench_of, request, request_of, run_of, texts, IsInRange, IsRunInRange, Reads};
 
 use crate::command::find_options;
 use crate::values::{
-    MOST, budget, limit, name, profile, required_name,
+    MOST, MOST_ROUNDS, MOST_SEED, MOST_SIZE, budget, limit, name, profile, required_name,
     required_number,
 };
 use crate::verb::Verb;
@@ -64,6 +64,7 @@ fn request_from(alloc: Global, verb: Verb, matches: &ArgMatches<'_>) -> Result<R
             file: required_name(alloc, matches, "file")?,
             limit: limit(matches)?,
         }),
+        Verb::Bench => bench_request(matches),
         Verb::Assemble => Ok(Request::Assemble {
             text: required_name(alloc, matches, "text")?,
         }),
@@ -83,5 +84,16 @@ fn run_words(alloc: Global, matches: &ArgMatches<'_>) -> Result<RunWords, WordsE
         prefix: name(alloc, matches, "prefix")?,
         budget: budget(matches)?,
         limit: limit(matches)?,
+    })
+}
+
+fn bench_request(matches: &ArgMatches<'_>) -> Result<Request, WordsError>
+    ensures read { Reads (bench_of (found_in matches.now)) result }
+    ensures range { IfOk result IsInRange }
+{
+    Ok(Request::Bench {
+        seed: required_number(matches, "seed", MOST_SEED)?,
+        size: required_number(matches, "size", MOST_SIZE)?,
+        rounds: required_number(matches, "rounds", MOST_ROUNDS)?,
     })
 }

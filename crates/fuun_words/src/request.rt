@@ -38,6 +38,9 @@ pub enum Request {
     List { dna: Name, count: u64 },
     /// The prefix that a patch file compiles to, of at most `limit` bases: from 1 to 2^40.
     Patch { file: Name, limit: u64 },
+    /// The summary of a run on a DNA that is drawn from a seed: from 0 to 2^31 - 1. It has `size` bases, from 0 to 2^24,
+    /// and a patch list of `rounds` rows, from 0 to 2^16.
+    Bench { seed: u64, size: u64, rounds: u64 },
     /// The DNA of a listing's text.
     Assemble { text: Name },
     /// A DNA of at most `limit` bases that draws a picture: from 1 to 2^40.

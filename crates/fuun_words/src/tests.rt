@@ -55,6 +55,10 @@ fn words_ask(rt: HostRuntime) -> Result<(), Fail> {
             r#"Patch { file: Name { text: "p" }, limit: 1 }"#,
         ),
         (
+            "bench --seed 2147483647 --rounds=65536 --size 16777216",
+            r#"Bench { seed: 2147483647, size: 16777216, rounds: 65536 }"#,
+        ),
+        (
             "assemble --text t",
             r#"Assemble { text: Name { text: "t" } }"#,
         ),
@@ -112,6 +116,10 @@ fn other_words_are_refused(rt: HostRuntime) -> Result<(), Fail> {
         "patch --file p --limit 0",
         "patch --file p --limit 1099511627777",
         "patch --file p --budget 1",
+        "bench --seed 0 --size 0",
+        "bench --seed 2147483648 --size 0 --rounds 0",
+        "bench --seed 0 --size 16777217 --rounds 0",
+        "bench --seed 0 --size 0 --rounds 65537",
         "assemble",
         "assemble --text t --limit 1",
         "picture --limit 1",

@@ -14,6 +14,13 @@ use std::alloc::Global;
 /// The most attempts of a budget, the most bases of a limit, and the most pairs of a listing.
 pub(crate) const MOST: u64 = 1 << 40;
 
+/// The greatest seed, the most bases of a target, and the most rounds of a load.
+pub(crate) const MOST_SEED: u64 = (1 << 31) - 1;
+
+pub(crate) const MOST_SIZE: u64 = 1 << 24;
+
+pub(crate) const MOST_ROUNDS: u64 = 1 << 16;
+
 /// Attempts, where no budget is given.
 const BUDGET: u64 = 10_000_000;
 

@@ -14,6 +14,7 @@ pub(crate) enum Verb {
     Names,
     List,
     Patch,
+    Bench,
     Assemble,
     Picture,
 }
@@ -49,6 +50,12 @@ static LIST: [VerbOption; 2] = [("dna", Need::Required), ("count", Need::Require
 
 static PATCH: [VerbOption; 2] = [("file", Need::Required), ("limit", Need::Optional)];
 
+static BENCH: [VerbOption; 3] = [
+    ("seed", Need::Required),
+    ("size", Need::Required),
+    ("rounds", Need::Required),
+];
+
 static ASSEMBLE: [VerbOption; 1] = [("text", Need::Required)];
 
 static PICTURE: [VerbOption; 2] = [("ppm", Need::Required), ("limit", Need::Optional)];
@@ -67,6 +74,7 @@ impl Verb {
             "names" => Some(Verb::Names),
             "list" => Some(Verb::List),
             "patch" => Some(Verb::Patch),
+            "bench" => Some(Verb::Bench),
             "assemble" => Some(Verb::Assemble),
             "picture" => Some(Verb::Picture),
             _ => None,
@@ -83,6 +91,7 @@ impl Verb {
             Verb::Draw | Verb::Names => DRAW.as_slice(),
             Verb::List => LIST.as_slice(),
             Verb::Patch => PATCH.as_slice(),
+            Verb::Bench => BENCH.as_slice(),
             Verb::Assemble => ASSEMBLE.as_slice(),
             Verb::Picture => PICTURE.as_slice(),
         }

@@ -23,3 +23,9 @@ returns-in-Trace-clause-ticks g c = rw c.in-Trace.is c.put_trace.ensures.ticks
 
 pub returns-in-Text-clause-wrote : goal.returns-in-Text-clause-wrote
 returns-in-Text-clause-wrote g c = rw c.in-Text.is c.put_text.ensures
+
+pub returns-in-Bench-clause-wrote : goal.returns-in-Bench-clause-wrote
+returns-in-Bench-clause-wrote g c = rw c.in-Bench.is c.put_bench.ensures.wrote
+
+pub returns-in-Bench-clause-ticks : goal.returns-in-Bench-clause-ticks
+returns-in-Bench-clause-ticks g c = rw c.in-Bench.is c.put_bench.ensures.ticks
