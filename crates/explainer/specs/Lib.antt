@@ -1,0 +1,10 @@
+pub mod Filling
+pub mod Windows
+pub mod Leading
+pub mod Replacement
+pub mod Attempt
+pub mod Run
+pub mod Laws
+pub mod Passing
+pub mod Making
+pub mod Lines

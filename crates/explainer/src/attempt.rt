@@ -1,0 +1,80 @@
+ghost use Rattle.std.specs.Prelude.{◌≡◌, ◌+◌, ◌-◌, ◌≤◌, ◌^◌, drop, length, if◌then◌else◌, IfOk};
+ghost use Rattle.dna_items.specs.Balance.{IsBalanced};
+ghost use Rattle.sym_strand.specs.Cells.{all_known};
+ghost use Rattle.explainer.specs.Making.{Comes, ComesOfItems};
+
+use crate::matching::{CellMatch, match_cells};
+use crate::reading::{Items, read_front};
+use crate::replacing::put;
+use fuun_base::{CommandList, NoMemory, Steps};
+use std::alloc::Global;
+use std::sync::ledger::Ledger;
+use sym_strand::SymDna;
+
+/// What comes of an attempt.
+#[derive(Drop)]
+pub(crate) enum Next {
+    /// The next cells.
+    Cells(SymDna),
+    TooLong,
+    Finished,
+    Depends,
+}
+
+/// Makes an attempt on cells. Its RNA is added to the commands.
+pub(crate) fn step<L: Ledger>(
+    alloc: Global,
+    dna: &SymDna,
+    limit: u64,
+    rna: &mut CommandList,
+    steps: &mut Steps<L>,
+) -> Result<Next, NoMemory>
+    requires limit { limit ≤ 2 ^ 40 }
+    requires within { length dna.now ≤ limit }
+    ensures { IfOk result (Comes dna.now limit rna.old rna.new) }
+{
+    match read_front(alloc, dna, rna, steps)? {
+        Some(items) => rewrite(alloc, dna, limit, &items, steps),
+        None => Ok(run_out(dna)),
+    }
+}
+
+fn run_out(dna: &SymDna) -> Next
+    ensures { result ≡ (if all_known dna.now then Next.Finished else Next.Depends) }
+{
+    if dna.all_known() {
+        Next::Finished
+    } else {
+        Next::Depends
+    }
+}
+
+/// Matches the items on the cells behind them, and makes the next cells.
+fn rewrite<L: Ledger>(
+    alloc: Global,
+    dna: &SymDna,
+    limit: u64,
+    items: &Items,
+    steps: &mut Steps<L>,
+) -> Result<Next, NoMemory>
+    requires place { items.now.place ≤ length dna.now }
+    requires balanced { IsBalanced items.now.pattern }
+    requires limit { limit ≤ 2 ^ 40 }
+    requires within { length dna.now ≤ limit }
+    ensures { IfOk result (ComesOfItems (drop items.now.place dna.now) items.now.pattern items.now.template limit) }
+{
+    let rest = dna.sub(items.place, dna.len())?;
+    match match_cells(alloc, &rest, items.pattern.as_slice())? {
+        CellMatch::Matched { stop, groups } => put(
+            alloc,
+            &rest,
+            items.template.as_slice(),
+            groups.as_slice(),
+            stop,
+            limit,
+            steps,
+        ),
+        CellMatch::NoMatch => Ok(Next::Cells(rest)),
+        CellMatch::Depends => Ok(Next::Depends),
+    }
+}

@@ -1,0 +1,189 @@
+ghost use Rattle.std.specs.Prelude.{◌≡◌, ◌+◌, ◌<◌, ◌≤◌, ◌^◌, ◌++◌, [], ◌∷◌, length, map, false, IfOk, OnOk, MatchOption};
+ghost use Rattle.fuun_base.specs.Quote.{asnat, protect};
+ghost use Rattle.sym_strand.specs.Cells.{all_known, known_front};
+ghost use Rattle.sym_strand.specs.declared.cells.Cell.TheVariants.{Known};
+ghost use Rattle.explainer.specs.Making.{cells_of, PutsWhere};
+ghost use Rattle.explainer.specs.Replacement.{text_of, put_by, quotes_target};
+
+use dna_items::TplItem;
+use fuun_base::{Base, NoMemory, Steps, Tally, asnat_into};
+use std::alloc::Global;
+use std::sync::ledger::Ledger;
+use strand::{FlatStrand, Strand};
+use sym_strand::SymDna;
+
+/// What stands of the next cells: some that are done, and the bases behind them that wait, so that they become one segment.
+#[derive(Drop)]
+pub(crate) struct Front {
+    pub(crate) done: SymDna,
+    pub(crate) waiting: Vec<Base>,
+}
+
+impl Front {
+    pub(crate) fn new(alloc: Global) -> Result<Front, NoMemory>
+        ensures { IfOk result (λ front. cells_of front ≡ []) }
+    {
+        Ok(Front {
+            done: SymDna::start(alloc, &[], 0)?,
+            waiting: Vec::new(alloc),
+        })
+    }
+
+    /// How many cells there are.
+    pub(crate) fn len(&self) -> u64
+        requires { length (cells_of self.now) ≤ 2 ^ 41 }
+        ensures { result ≡ length (cells_of self.now) }
+    {
+        self.done.len() + self.waiting.len() as u64
+    }
+
+    /// The cells, the waiting bases with them.
+    pub(crate) fn finished(self) -> Result<SymDna, NoMemory>
+        requires { length (cells_of self) ≤ 2 ^ 41 }
+        ensures { IfOk result (λ dna. dna ≡ cells_of self) }
+    {
+        let mut front = self;
+        front.settle()?;
+        Ok(front.done)
+    }
+
+    // Puts the waiting bases to the others.
+    fn settle(&mut self) -> Result<(), NoMemory>
+        requires { length (cells_of self.old) ≤ 2 ^ 41 }
+        ensures cells { OnOk result (self.new.done ≡ cells_of self.old) }
+        ensures none { OnOk result (self.new.waiting.items ≡ []) }
+    {
+        self.done.push_known(self.waiting.as_slice())?;
+        self.waiting.clear();
+        Ok(())
+    }
+
+    /// Adds what an item of a template puts, if it fits the room.
+    pub(crate) fn put<L: Ledger>(
+        &mut self,
+        alloc: Global,
+        texts: &[SymDna],
+        item: TplItem,
+        room: u64,
+        steps: &mut Steps<L>,
+    ) -> Result<bool, NoMemory>
+        requires known { quotes_target texts.now item ≡ false }
+        requires room { length (cells_of self.old) + room ≤ 2 ^ 40 }
+        ensures { IfOk result (λ fits. PutsWhere fits room (cells_of self.old) (cells_of self.new) (put_by texts.now item)) }
+    {
+        match item {
+            TplItem::Base(base) => self.put_bases(&[base], room),
+            TplItem::Group { n, level } => {
+                if level == 0 {
+                    self.put_group(texts, n, room)
+                } else {
+                    self.put_quoted(alloc, texts, n, level, room, steps)
+                }
+            }
+            TplItem::Len(n) => self.put_len(alloc, texts, n, room),
+        }
+    }
+
+    fn put_bases(&mut self, bases: &[Base], room: u64) -> Result<bool, NoMemory>
+        ensures { IfOk result (λ fits. PutsWhere fits room (cells_of self.old) (cells_of self.new) (map Known bases.now)) }
+    {
+        if bases.len() as u64 > room {
+            return Ok(false);
+        }
+        self.waiting.extend_from_slice(bases)?;
+        Ok(true)
+    }
+
+    fn put_group(&mut self, texts: &[SymDna], n: u64, room: u64) -> Result<bool, NoMemory>
+        requires { length (cells_of self.old) + room ≤ 2 ^ 40 }
+        ensures { IfOk result (λ fits. PutsWhere fits room (cells_of self.old) (cells_of self.new) (text_of texts.now n)) }
+    {
+        match texts.get(n as usize) {
+            None => Ok(true),
+            Some(text) => self.put_cells(text, room),
+        }
+    }
+
+    fn put_cells(&mut self, text: &SymDna, room: u64) -> Result<bool, NoMemory>
+        requires { length (cells_of self.old) + room ≤ 2 ^ 40 }
+        ensures { IfOk result (λ fits. PutsWhere fits room (cells_of self.old) (cells_of self.new) text.now) }
+    {
+        if text.len() > room {
+            return Ok(false);
+        }
+        if text.all_known() {
+            return self.put_bases(text.known_front()?.as_slice(), room);
+        }
+        self.settle()?;
+        self.done.append(text)?;
+        Ok(true)
+    }
+
+    fn put_quoted<L: Ledger>(
+        &mut self,
+        alloc: Global,
+        texts: &[SymDna],
+        n: u64,
+        level: u64,
+        room: u64,
+        steps: &mut Steps<L>,
+    ) -> Result<bool, NoMemory>
+        requires { length (cells_of self.old) + room ≤ 2 ^ 40 }
+        ensures { IfOk result (λ fits. PutsWhere fits room (cells_of self.old) (cells_of self.new)
+            (map Known (protect level (known_front (text_of texts.now n))))) }
+    {
+        match texts.get(n as usize) {
+            None => self.put_bases(&[], room),
+            Some(text) => match quoted(alloc, text, level, room, steps)? {
+                None => Ok(false),
+                Some(bases) => self.put_bases(bases.as_slice(), room),
+            },
+        }
+    }
+
+    fn put_len(
+        &mut self,
+        alloc: Global,
+        texts: &[SymDna],
+        n: u64,
+        room: u64,
+    ) -> Result<bool, NoMemory>
+        ensures { IfOk result (λ fits. PutsWhere fits room (cells_of self.old) (cells_of self.new)
+            (map Known (asnat (length (text_of texts.now n))))) }
+    {
+        let mut number = Vec::new(alloc);
+        asnat_into(text_len(texts, n), &mut number)?;
+        self.put_bases(number.as_slice(), room)
+    }
+}
+
+fn text_len(texts: &[SymDna], n: u64) -> u64
+    ensures { result ≡ length (text_of texts.now n) }
+{
+    match texts.get(n as usize) {
+        None => 0,
+        Some(text) => text.len(),
+    }
+}
+
+// The bases before the first place of the target, quoted so often: None where they are more than the room.
+fn quoted<L: Ledger>(
+    alloc: Global,
+    text: &SymDna,
+    level: u64,
+    room: u64,
+    steps: &mut Steps<L>,
+) -> Result<Option<FlatStrand>, NoMemory>
+    requires { room ≤ 2 ^ 40 }
+    ensures { IfOk result (λ found. MatchOption found
+        (room < length (protect level (known_front text.now)))
+        (λ bases. bases ≡ protect level (known_front text.now))) }
+{
+    let _len = text.len();
+    let bases = text.known_front()?;
+    let Some(_len) = Tally::of(bases.as_slice()).quoted_len(level, room) else {
+        return Ok(None);
+    };
+    let bases = FlatStrand::build(alloc, bases.as_slice(), steps)?;
+    Ok(Some(bases.quoted(0, bases.len(), level, steps)?))
+}

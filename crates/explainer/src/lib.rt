@@ -1,0 +1,21 @@
+//! What a prefix does to every DNA of a length: the machine run on cells, of which only the prefix's are known.
+#![tactic(auto)]
+
+mod attempt;
+mod explained;
+mod explaining;
+mod fronts;
+pub mod laws;
+mod marks;
+mod matching;
+mod passing;
+mod reading;
+mod replacing;
+mod searching;
+mod texts;
+mod writing;
+
+pub use explained::{ExplainError, Explained};
+pub use explaining::explain;
+pub use writing::put_explained;
+
