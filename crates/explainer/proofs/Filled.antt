@@ -73,8 +73,8 @@ fill_start prefix d target is =
     map-append (base_in d) (map Known prefix) (places_from 0 target)
     ∙ ap (λ l. l ++ fill d (places_from 0 target)) (fill_known d prefix)
     ∙ ap (λ l. prefix ++ l) (fill_places d 0 target (omega arith) ∙ take_whole d target is) where
-  take_whole : (d : List Base) (n : ℕ) → length d ≡ n → take n d ≡ d
-  take_whole d n e = take_all n d (omega arith)
+      take_whole : (d : List Base) (n : ℕ) → length d ≡ n → take n d ≡ d
+      take_whole d n e = take_all n d (omega arith)
 
 -- windows
 
@@ -194,9 +194,9 @@ put_filled d texts (Group n zero) known = sym (text_filled d texts n)
 put_filled d texts (Group n (suc level)) known =
     fill_known d (protect (suc level) (known_front (text_of texts n)))
     ∙ ap (protect (suc level)) (sym (fill_all_known d (text_of texts n) (known_text (all_known (text_of texts n)) known)) ∙ sym (text_filled d texts n)) where
-  known_text : (b : Bool) → not b ≡ false → b ≡ true
-  known_text true e = refl
-  known_text false e = cc
+      known_text : (b : Bool) → not b ≡ false → b ≡ true
+      known_text true e = refl
+      known_text false e = cc
 put_filled d texts (Len n) known =
     fill_known d (asnat (length (text_of texts n)))
     ∙ ap asnat (sym (length-map (text_of texts n) (base_in d)) ∙ ap length (sym (text_filled d texts n)))

@@ -3,3 +3,10 @@ pub mod Filled
 pub mod Along
 pub mod FilledAttempts
 pub mod FilledRuns
+pub mod ByPlaces
+pub mod ByItems
+pub mod Putting
+pub mod HeldCells
+pub mod MadeOnCells
+pub mod ByAttempts
+pub mod ByParts

@@ -1,4 +1,5 @@
-ghost use Rattle.std.specs.Prelude.{◌≡◌, ◌+◌, ◌<◌, ◌≤◌, ◌^◌, ◌++◌, [], ◌∷◌, length, map, false, IfOk, OnOk, MatchOption};
+ghost use Rattle.std.specs.Prelude.{◌≡◌, ◌+◌, ◌<◌, ◌≤◌, ◌^◌, ◌++◌, [], ◌∷◌, length, map, false, slice_get, IfOk, OnOk, MatchOption};
+ghost use Rattle.std.specs.Option.{option_copied};
 ghost use Rattle.fuun_base.specs.Quote.{asnat, protect};
 ghost use Rattle.sym_strand.specs.Cells.{all_known, known_front};
 ghost use Rattle.sym_strand.specs.declared.cells.Cell.TheVariants.{Known};
@@ -98,7 +99,7 @@ impl Front {
         requires { length (cells_of self.old) + room ≤ 2 ^ 40 }
         ensures { IfOk result (λ fits. PutsWhere fits room (cells_of self.old) (cells_of self.new) (text_of texts.now n)) }
     {
-        match texts.get(n as usize) {
+        match text_at(texts, n) {
             None => Ok(true),
             Some(text) => self.put_cells(text, room),
         }
@@ -132,7 +133,7 @@ impl Front {
         ensures { IfOk result (λ fits. PutsWhere fits room (cells_of self.old) (cells_of self.new)
             (map Known (protect level (known_front (text_of texts.now n))))) }
     {
-        match texts.get(n as usize) {
+        match text_at(texts, n) {
             None => self.put_bases(&[], room),
             Some(text) => match quoted(alloc, text, level, room, steps)? {
                 None => Ok(false),
@@ -155,6 +156,12 @@ impl Front {
         asnat_into(text_len(texts, n), &mut number)?;
         self.put_bases(number.as_slice(), room)
     }
+}
+
+fn text_at(texts: &[SymDna], n: u64) -> Option<&SymDna>
+    ensures { option_copied result ≡ slice_get texts.now n }
+{
+    texts.get(n as usize)
 }
 
 fn text_len(texts: &[SymDna], n: u64) -> u64

@@ -19,3 +19,5 @@ pub use explained::{ExplainError, Explained};
 pub use explaining::explain;
 pub use writing::put_explained;
 
+#[cfg(test)]
+mod tests;

@@ -123,11 +123,7 @@ fn put_letters<S: Sink>(bases: &[Base], sink: &mut S) -> Result<(), WriteFault>
 }
 
 /// Writes the letters of bases, as many at a time as the buffer holds.
-fn put_by_buffer<S: Sink>(
-    bases: &[Base],
-    buffer: &mut [u8],
-    sink: &mut S,
-) -> Result<(), WriteFault>
+fn put_by_buffer<S: Sink>(bases: &[Base], buffer: &mut [u8], sink: &mut S) -> Result<(), WriteFault>
     requires { 1 ≤ length buffer.old }
     ensures puts { Puts result (S.bytes sink.old) (S.bytes sink.new) (map letter_of bases.now) }
     ensures cause { HasCause (S.faults sink.old) (S.faults sink.new) result }

@@ -1,0 +1,123 @@
+-- What templates put on cells, item by item.
+use Rattle.std.proofs.Common.{◌≡◌, ℕ, zero, suc, ◌+◌, ◌-◌, ◌^◌, ◌<◌, ◌≤◌, ◌==◌, Bool, true, false, not, Option, Some, None, MatchOption, Result, Ok, Err, IfOk, List, [], ◌∷◌, ◌++◌, All, length, get_or, take, drop, map, arith, refl, sym, ap, subst, ◌∙◌, append-nil, append_assoc}
+use Rattle.std.specs.Prelude.{◌||◌, slice_get, slice_range, unwrap_or}
+use Rattle.std.specs.List.{flat_map, list_any}
+use Rattle.std.proofs.lemmas.List.{length-map, length-append, map-append, take_more, take_all, drop_more, drop_all, take-append-drop}
+use Rattle.std.proofs.lemmas.Grind.{flat_map-append}
+use Rattle.std.proofs.lemmas.Option.{slice_get-get_or, slice_get_past}
+use Rattle.fuun_base.specs.declared.letters.Base.{Base}
+use Rattle.fuun_base.specs.Quote.{protect, asnat}
+use Rattle.fuun_base.proofs.QuoteLemmas.{protect_of-nil}
+use Rattle.dna_items.specs.declared.items.TplItem.{TplItem}
+use Rattle.dna_items.specs.declared.items.TplItem.TheVariants.{Base as TplLiteral, Group, Len}
+use Rattle.sym_strand.specs.declared.cells.Cell.{Cell}
+use Rattle.sym_strand.specs.declared.cells.Cell.TheVariants.{Known, Target}
+use Rattle.sym_strand.specs.Cells.{all_known, known_front}
+use Rattle.explainer.specs.Replacement.{text_of, texts_of, quotes_target, depends_on_target, put_by}
+use Rattle.explainer.specs.Making.{PutsWhere, ReplacesWithin}
+
+-- texts
+
+pub texts_more : (z : List Cell) (groups : List (ℕ × ℕ)) (k : ℕ) (group : ℕ × ℕ) → k < length groups → group ≡ get_or groups k group
+    → texts_of z (take k groups) ++ slice_range z group.0 group.1 ∷ [] ≡ texts_of z (take (k + 1) groups)
+texts_more z groups k group inside is =
+    sym (ap (texts_of z) (take_more groups k group inside ∙ ap (λ g. take k groups ++ g ∷ []) (sym is)) ∙ map-append (λ (range : ℕ × ℕ). slice_range z range.0 range.1) (take k groups) (group ∷ []))
+
+-- whether an item quotes the target
+
+pub quotes_none : (texts : List (List Cell)) (n level : ℕ) → level ≡ 0 → quotes_target texts (Group n level) ≡ false
+quotes_none texts n level is = ap (λ l. quotes_target texts (Group n l)) is
+
+pub quotes_above : (texts : List (List Cell)) (n level : ℕ) → 0 < level → quotes_target texts (Group n level) ≡ not (all_known (text_of texts n))
+quotes_above texts n zero above = absurd (omega arith)
+quotes_above texts n (suc level) above = refl
+
+any_more : (texts : List (List Cell)) (items : List TplItem) (k : ℕ) (item : TplItem) → k < length items
+    → depends_on_target texts (drop k items) ≡ (quotes_target texts (get_or items k item) || depends_on_target texts (drop (k + 1) items))
+any_more texts items k item inside = ap (depends_on_target texts) (drop_more items k item inside)
+
+pub depends_here : (texts : List (List Cell)) (items : List TplItem) (k : ℕ) (item : TplItem) → k < length items → quotes_target texts (get_or items k item) ≡ true → depends_on_target texts (drop k items) ≡ true
+depends_here texts items k item inside is = any_more texts items k item inside ∙ ap (λ b. b || depends_on_target texts (drop (k + 1) items)) is
+
+pub depends_behind : (texts : List (List Cell)) (items : List TplItem) (k : ℕ) (item : TplItem) → k < length items → quotes_target texts (get_or items k item) ≡ false
+    → depends_on_target texts (drop k items) ≡ depends_on_target texts (drop (k + 1) items)
+depends_behind texts items k item inside is = any_more texts items k item inside ∙ ap (λ b. b || depends_on_target texts (drop (k + 1) items)) is
+
+or_none : (b c : Bool) → (b || c) ≡ false → (b ≡ false) × (c ≡ false)
+or_none false c e = (refl, e)
+or_none true c e = cc
+
+pub none_quotes : (texts : List (List Cell)) (items : List TplItem) (k : ℕ) (item : TplItem) → depends_on_target texts items ≡ false → k < length items → quotes_target texts (get_or items k item) ≡ false
+none_quotes texts [] k item none inside = absurd (omega arith)
+none_quotes texts (x ∷ items) zero item none inside = (or_none (quotes_target texts x) (depends_on_target texts items) none).0
+none_quotes texts (x ∷ items) (suc k) item none inside = none_quotes texts items k item (or_none (quotes_target texts x) (depends_on_target texts items) none).1 (omega arith)
+
+-- what an item puts
+
+pub put_plain : (texts : List (List Cell)) (n level : ℕ) → level ≡ 0 → put_by texts (Group n level) ≡ text_of texts n
+put_plain texts n level is = ap (λ l. put_by texts (Group n l)) is
+
+pub put_quoted : (texts : List (List Cell)) (n level : ℕ) → 0 < level → put_by texts (Group n level) ≡ map Known (protect level (known_front (text_of texts n)))
+put_quoted texts n zero above = absurd (omega arith)
+put_quoted texts n (suc level) above = refl
+
+pub puts_same : {E : Type 0} (result : Result Bool E) (room : ℕ) (old new text text' : List Cell) → text ≡ text' → IfOk result (λ fits. PutsWhere fits room old new text) → IfOk result (λ fits. PutsWhere fits room old new text')
+puts_same result room old new text text' same x = subst (λ t. IfOk result (λ fits. PutsWhere fits room old new t)) same x
+
+pub bases_of_known : (z : List Cell) → all_known z ≡ true → map Known (known_front z) ≡ z
+bases_of_known [] known = refl
+bases_of_known (Known b ∷ z) known = ap (λ l. Known b ∷ l) (bases_of_known z known)
+bases_of_known (Target place ∷ z) known = cc
+
+pub no_text : (texts : List (List Cell)) (n : ℕ) → slice_get texts n ≡ None → text_of texts n ≡ []
+no_text texts n none = ap (λ o. unwrap_or o []) none
+
+pub some_text : (texts : List (List Cell)) (n : ℕ) (text : List Cell) → slice_get texts n ≡ Some text → text_of texts n ≡ text
+some_text texts n text some = ap (λ o. unwrap_or o []) some
+
+pub quoted_nothing : (texts : List (List Cell)) (n level : ℕ) → slice_get texts n ≡ None → map Known [] ≡ map Known (protect level (known_front (text_of texts n)))
+quoted_nothing texts n level none = ap (map Known) (sym (protect_of-nil level)) ∙ ap (λ t. map Known (protect level (known_front t))) (sym (no_text texts n none))
+
+-- items so far
+
+pub puts_more : (texts : List (List Cell)) (items : List TplItem) (k : ℕ) (item : TplItem) → k < length items
+    → flat_map (put_by texts) (take (k + 1) items) ≡ flat_map (put_by texts) (take k items) ++ put_by texts (get_or items k item)
+puts_more texts items k item inside =
+    ap (flat_map (put_by texts)) (take_more items k item inside)
+    ∙ flat_map-append (put_by texts) (take k items) (get_or items k item ∷ [])
+    ∙ ap (λ l. flat_map (put_by texts) (take k items) ++ l) (append-nil (put_by texts (get_or items k item)))
+
+puts_most : (texts : List (List Cell)) (items : List TplItem) (k : ℕ) → length (flat_map (put_by texts) (take k items)) ≤ length (flat_map (put_by texts) items)
+puts_most texts items k =
+    let whole = sym (flat_map-append (put_by texts) (take k items) (drop k items)) ∙ ap (flat_map (put_by texts)) (take-append-drop k items) in
+    omega (arith, ap length whole, length-append (flat_map (put_by texts) (take k items)) (flat_map (put_by texts) (drop k items)))
+
+-- one item does not fit: nor do all
+pub too_many : (texts : List (List Cell)) (items : List TplItem) (k limit room : ℕ) (item : TplItem) (cells tail : List Cell) → k < length items
+    → cells ≡ flat_map (put_by texts) (take k items) → room ≡ limit - length tail - length cells → room < length (put_by texts (get_or items k item))
+    → limit < length (flat_map (put_by texts) items ++ tail)
+too_many texts items k limit room item cells tail inside so_far is past =
+    omega (
+      arith,
+      puts_most texts items (k + 1),
+      ap length (puts_more texts items k item inside),
+      length-append (flat_map (put_by texts) (take k items)) (put_by texts (get_or items k item)),
+      ap length so_far,
+      length-append (flat_map (put_by texts) items) tail,
+    )
+
+pub all_put : (texts : List (List Cell)) (items : List TplItem) (k limit : ℕ) (cells tail next : List Cell) → length items ≤ k → cells ≡ flat_map (put_by texts) (take k items)
+    → length tail ≤ limit → length cells ≤ limit - length tail → next ≡ cells ++ tail → ReplacesWithin texts items tail limit (Some next)
+all_put texts items k limit cells tail next all so_far within room is =
+    let whole : next ≡ flat_map (put_by texts) items ++ tail = is ∙ ap (λ l. l ++ tail) (so_far ∙ ap (flat_map (put_by texts)) (take_all k items all)) in
+    (whole, omega (arith, ap length is, length-append cells tail))
+
+pub puts_not : (fits : Bool) (room : ℕ) (old new text : List Cell) → fits ≡ false → PutsWhere fits room old new text → room < length text
+puts_not false room old new text e x = x
+puts_not true room old new text e x = cc
+
+pub quoted_past : (texts : List (List Cell)) (n level room : ℕ) (text : List Cell) → slice_get texts n ≡ Some text → room < length (protect level (known_front text))
+    → room < length (map Known (protect level (known_front (text_of texts n))))
+quoted_past texts n level room text some past =
+    let same : text_of texts n ≡ text = some_text texts n text some in
+    omega (arith, length-map (protect level (known_front (text_of texts n))) Known, ap (λ t. length (protect level (known_front t))) same)

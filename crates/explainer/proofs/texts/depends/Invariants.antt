@@ -1,0 +1,6 @@
+use Rattle.std.proofs.Common.{◌≡◌, drop}
+use Rattle.explainer.specs.Replacement.{depends_on_target}
+use Rattle.explainer.proofs.texts.depends.Given as goal
+
+abbrev pub invariant-loop-item : goal.invariant-loop-item
+invariant-loop-item l = depends_on_target l.texts l.items ≡ depends_on_target l.texts (drop l.item-index l.items)

@@ -1,0 +1,15 @@
+use Rattle.std.proofs.Common.{◌++◌, ◌∷◌, [], codes, map}
+use Rattle.std.specs.List.{flat_map}
+use Rattle.std.proofs.lemmas.Result.{MatchResult-from_err}
+use Rattle.fuun_io.proofs.WrittenLemmas.{PutsFront-longer}
+use Rattle.fuun_base.specs.Letter.{letter_of}
+use Rattle.explainer.proofs.ByParts.{puts_behind}
+use Rattle.explainer.proofs.writing.put_known.Goals as goal
+
+pub returns-in_err-put_all-clause-puts : goal.returns-in_err-put_all-clause-puts
+returns-in_err-put_all-clause-puts g c =
+    MatchResult-from_err c.from_residual.result _ _ c.from_residual.ensures.0
+    (λ _. PutsFront-longer _ _ (codes "known ") (map letter_of c.args.bases.now ++ codes "\n") c.in_err-put_all.ensures.puts)
+
+pub returns-clause-puts : goal.returns-clause-puts
+returns-clause-puts g c = puts_behind (codes "known ") (map letter_of c.args.bases.now ++ codes "\n") _ _ _ c.put_ended.result c.in_ok-put_all.ensures.puts c.put_ended.ensures.puts
