@@ -1,8 +1,7 @@
 -- Items that go through cells do so in one way.
-use Rattle.std.proofs.Common.{◌≡◌, ◌≢◌, ℕ, ◌+◌, ◌<◌, ◌≤◌, inl, inr, Some, None, List, [], ◌∷◌, length, get_or, arith, refl, sym, ap, subst, ◌∙◌}
-use Rattle.std.specs.Prelude.{slice_get}
+use Rattle.std.proofs.Common.{◌≡◌, ℕ, inl, inr, Some, List, [], ◌∷◌, get_or, arith, sym, subst, ◌∙◌}
 use Rattle.std.proofs.lemmas.Bool.{cases_lt}
-use Rattle.std.proofs.lemmas.Option.{slice_get_within, slice_get_cases, none-some, same_Some, slice_get_past, slice_get-get_or}
+use Rattle.std.proofs.lemmas.Option.{none-some, slice_get_past, slice_get-get_or}
 use Rattle.fuun_base.specs.declared.letters.Base.{Base}
 use Rattle.fuun_base.specs.declared.letters.Base.TheVariants.{I}
 use Rattle.dna_items.specs.declared.items.PatItem.{PatItem}
@@ -11,8 +10,8 @@ use Rattle.matcher.proofs.Places.{meets_same, through_same}
 use Rattle.sym_strand.specs.declared.cells.Cell.{Cell}
 use Rattle.sym_strand.specs.declared.cells.Cell.TheVariants.{Known, Target}
 use Rattle.explainer.specs.Filling.{fill}
-use Rattle.explainer.specs.Windows.{IsSure, IsOut, IsUnsure, IsSureFirst, IsUnsureFirst}
-use Rattle.explainer.specs.Leading.{Leads, Fails, Depends, LeadAlong, FailAlong, DependAlong}
+use Rattle.explainer.specs.Windows.{IsSure, IsOut, IsUnsure}
+use Rattle.explainer.specs.Leading.{Leads, Fails, Depends, LeadAlong, DependAlong}
 use Rattle.explainer.specs.Laws.{LeadsAreNoFailures, LeadsDoNotDepend, FailuresDoNotDepend}
 use Rattle.explainer.proofs.Filled.{leads_filled, along_filled, fails_filled, fail_filled}
 

@@ -1,13 +1,12 @@
 -- A run on cells, attempt by attempt.
-use Rattle.std.proofs.Common.{◌≡◌, ℕ, ◌+◌, ◌^◌, ◌<◌, ◌≤◌, true, false, Some, Result, Err, List, [], ◌∷◌, ◌++◌, length, arith, refl, sym, ap, subst, ◌∙◌, append-nil, append_assoc, length-append}
+use Rattle.std.proofs.Common.{◌≡◌, ℕ, ◌+◌, ◌<◌, ◌≤◌, true, false, Some, Result, Err, List, [], ◌∷◌, ◌++◌, length, arith, refl, sym, ap, subst, ◌∙◌, append-nil, append_assoc, length-append}
 use Rattle.fuun_base.specs.declared.letters.Base.{Base}
 use Rattle.sym_strand.specs.declared.cells.Cell.{Cell}
 use Rattle.sym_strand.specs.Cells.{start_cells}
 use Rattle.sym_strand.specs.Segments.{StandFor}
-use Rattle.explainer.specs.Attempt as one
-use Rattle.explainer.specs.Attempt.{Attempt, IsAttempt, DependsOn, next_cells}
-use Rattle.explainer.specs.Making.{MakesAttempt, Comes}
-use Rattle.explainer.specs.Run.{End, Finished, Budget, TooLong, Depends, LeadOn, rna_of, Run, IsRun, end_of, Explains, EndsSo}
+use Rattle.explainer.specs.Attempt.{Attempt, IsAttempt, next_cells}
+use Rattle.explainer.specs.Making.{Comes}
+use Rattle.explainer.specs.Run.{Finished, Budget, TooLong, Depends, LeadOn, rna_of, end_of, Explains, EndsSo}
 use Rattle.explainer.specs.declared.explained.Explained.{Explained}
 use Rattle.explainer.specs.declared.explained.ExplainError.{ExplainError}
 use Rattle.explainer.specs.declared.explained.ExplainError.TheVariants as error

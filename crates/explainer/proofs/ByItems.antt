@@ -1,6 +1,5 @@
 -- Items that go through cells, one after the other.
-use Rattle.std.proofs.Common.{◌≡◌, ℕ, ◌+◌, ◌<◌, ◌≤◌, inl, inr, Some, List, [], ◌∷◌, ◌++◌, All, length, get_or, take, drop, map, arith, refl, sym, ap, subst, ◌∙◌, append-nil, append_assoc}
-use Rattle.std.specs.Prelude.{slice_get}
+use Rattle.std.proofs.Common.{◌≡◌, ℕ, ◌+◌, ◌<◌, ◌≤◌, inl, inr, List, [], ◌∷◌, ◌++◌, length, get_or, drop, map, arith, refl, sym, ap, subst, ◌∙◌, append_assoc}
 use Rattle.std.proofs.lemmas.List.{length-map, drop_more, drop_all}
 use Rattle.fuun_base.specs.declared.letters.Base.{Base}
 use Rattle.dna_items.specs.declared.items.PatItem.{PatItem}
@@ -8,7 +7,7 @@ use Rattle.dna_items.specs.declared.items.PatItem.TheVariants.{GroupStop}
 use Rattle.dna_items.specs.Balance.{IsBalanced}
 use Rattle.matcher.specs.Groups.{AreGroups}
 use Rattle.matcher.specs.Match.{IsMatch, last_place}
-use Rattle.matcher.specs.Found.{MatchesAt, LiesWithin, moved}
+use Rattle.matcher.specs.Found.{MatchesAt, moved}
 use Rattle.matcher.specs.Step.{LeadsOver, Marked}
 use Rattle.matcher.proofs.Matches.{match_is_one}
 use Rattle.matcher.proofs.Reached.{Reached, reached_begins, reached_more, reached_within, reached_open, reached_ends, reached_inside}

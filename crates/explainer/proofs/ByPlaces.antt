@@ -1,12 +1,12 @@
 -- Windows on cells, base by base and place by place.
-use Rattle.std.proofs.Common.{◌≡◌, ◌≢◌, ℕ, ◌+◌, ◌-◌, ◌<◌, ◌≤◌, inl, inr, Bool, true, false, Some, List, length, get_or, arith, refl, sym, ap, subst, ◌∙◌}
+use Rattle.std.proofs.Common.{◌≡◌, ◌≢◌, ℕ, ◌+◌, ◌<◌, ◌≤◌, inl, inr, Bool, true, false, Some, List, length, arith, sym, ap, subst, ◌∙◌}
 use Rattle.std.specs.Prelude.{slice_get}
 use Rattle.std.proofs.lemmas.Bool.{cases_lt}
-use Rattle.std.proofs.lemmas.Option.{same_Some, slice_get_within, slice_get-get_or}
+use Rattle.std.proofs.lemmas.Option.{same_Some, slice_get_within}
 use Rattle.fuun_base.specs.declared.letters.Base.{Base}
 use Rattle.sym_strand.specs.declared.cells.Cell.{Cell}
 use Rattle.sym_strand.specs.declared.cells.Cell.TheVariants.{Known, Target}
-use Rattle.explainer.specs.Windows.{IsSure, IsOut, IsUnsure, AreOut, IsSureFirst, IsUnsureFirst, IsOutEverywhere}
+use Rattle.explainer.specs.Windows.{IsSure, IsOut, IsUnsure, AreOut, IsOutEverywhere}
 
 -- the first bases of a window
 pub record SoFar (s : List Base) (z : List Cell) (place k : ℕ) (sure : Bool) : Type 0 where

@@ -1,12 +1,10 @@
 -- What holds of cells holds of what they stand for in each target.
-use Rattle.std.proofs.Common.{◌≡◌, ◌≢◌, ℕ, zero, suc, ◌+◌, ◌-◌, ◌<◌, ◌≤◌, ◌⊎◌, inl, inr, Bool, true, false, not, Option, Some, None, List, [], ◌∷◌, ◌++◌, length, get_or, take, drop, map, arith, refl, sym, ap, subst, ◌∙◌, append-nil, append_assoc}
-use Rattle.std.specs.Prelude.{◌||◌, slice_get, slice_range, slice_index_or, unwrap_or}
+use Rattle.std.proofs.Common.{◌≡◌, ℕ, zero, suc, ◌+◌, ◌-◌, ◌<◌, ◌≤◌, inl, inr, Bool, true, false, not, Some, List, [], ◌∷◌, ◌++◌, length, get_or, take, drop, map, arith, refl, sym, ap, subst, ◌∙◌}
+use Rattle.std.specs.Prelude.{◌||◌, slice_get, slice_range}
 use Rattle.std.specs.Option.{option_map}
-use Rattle.std.specs.List.{flat_map, list_any}
-use Rattle.std.proofs.lemmas.List.{length-map, map-append, drop-map, take-map, drop_more, length-drop, length-append, take_all}
+use Rattle.std.specs.List.{flat_map}
+use Rattle.std.proofs.lemmas.List.{length-map, map-append, drop-map, take-map, drop_more, length-drop, take_all}
 use Rattle.std.proofs.lemmas.Option.{slice_get-map, slice_get_within, none-some, same_Some, slice_get_past}
-use Rattle.std.proofs.lemmas.Bool.{cases_lt}
-use Rattle.std.proofs.Math.Seq.{drop-append_seam}
 use Rattle.fuun_base.specs.declared.letters.Base.{Base}
 use Rattle.fuun_base.specs.declared.letters.Base.TheVariants.{I}
 use Rattle.fuun_base.specs.Occurrence.{Stands, IsFirst}
@@ -15,7 +13,6 @@ use Rattle.dna_items.specs.declared.items.PatItem.{PatItem}
 use Rattle.dna_items.specs.declared.items.PatItem.TheVariants.{Base as Literal, Skip, Search, GroupStart, GroupStop}
 use Rattle.dna_items.specs.declared.items.TplItem.{TplItem}
 use Rattle.dna_items.specs.declared.items.TplItem.TheVariants.{Base as TplLiteral, Group, Len}
-use Rattle.matcher.specs.Match as machine
 use Rattle.matcher.specs.Match.{Meets, LeadThrough, HasNoMatch}
 use Rattle.matcher.specs.Step.{MeetsNowhere, LeadNowhere}
 use Rattle.matcher.proofs.Places.{meets_same}
@@ -24,7 +21,7 @@ use Rattle.sym_strand.specs.declared.cells.Cell.{Cell}
 use Rattle.sym_strand.specs.declared.cells.Cell.TheVariants.{Known, Target}
 use Rattle.sym_strand.specs.Cells.{places_from, start_cells, all_known, known_front}
 use Rattle.explainer.specs.Filling.{base_in, fill}
-use Rattle.explainer.specs.Windows.{IsSure, IsOut, IsSureFirst, IsOutEverywhere}
+use Rattle.explainer.specs.Windows.{IsSure, IsOut}
 use Rattle.explainer.specs.Leading.{Leads, Fails, LeadAlong, FailAlong}
 use Rattle.explainer.specs.Replacement.{text_of, texts_of, quotes_target, depends_on_target, put_by, replaced}
 

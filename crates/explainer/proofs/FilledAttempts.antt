@@ -1,7 +1,7 @@
 -- The attempt on cells is the machine's on what they stand for in a target.
-use Rattle.std.proofs.Common.{◌≡◌, ℕ, ◌+◌, ◌-◌, ◌<◌, ◌≤◌, ◌⊎◌, inl, inr, Option, Some, None, List, [], ◌∷◌, ◌++◌, length, drop, map, arith, refl, sym, ap, subst, ◌∙◌, append-nil, append_assoc}
+use Rattle.std.proofs.Common.{◌≡◌, ℕ, ◌-◌, ◌<◌, ◌≤◌, ◌⊎◌, Some, List, [], ◌∷◌, ◌++◌, length, drop, arith, refl, sym, ap, subst, ◌∙◌, append-nil, append_assoc}
 use Rattle.std.specs.Option.{option_map}
-use Rattle.std.proofs.lemmas.List.{length-map, drop-map, length-append, drop-append-le, drop_all}
+use Rattle.std.proofs.lemmas.List.{length-map, drop-map, length-append, drop_all}
 use Rattle.std.proofs.Math.Seq.{drop-append_seam}
 use Rattle.fuun_base.specs.declared.letters.Base.{Base}
 use Rattle.dna_reader.specs.Reading.{Read}
@@ -11,10 +11,10 @@ use Rattle.exec_loop.specs.Attempt.{PatternRanOut, TemplateRanOut}
 use Rattle.sym_strand.specs.declared.cells.Cell.{Cell}
 use Rattle.sym_strand.specs.Cells.{known_front}
 use Rattle.explainer.specs.Filling.{base_in, fill}
-use Rattle.explainer.specs.Attempt.{Ending, Matched, NoMatch, TooLong, Finished, Attempt, ReadsBoth, RanOutOn, Finishes, FindsNone, Matches, Rewrites, EndsBy, IsAttempt, next_cells, filled_ending, filled}
+use Rattle.explainer.specs.Attempt.{Ending, Matched, NoMatch, TooLong, Finished, Attempt, ReadsBoth, RanOutOn, Rewrites, EndsBy, next_cells, filled_ending}
 use Rattle.explainer.specs.Laws.{AttemptIsFilled}
 use Rattle.explainer.proofs.LongerReadings.{longer_pattern, longer_template, reading_leaves}
-use Rattle.explainer.proofs.Filled.{front_most, fill_front, along_filled, no_match_filled, replaced_filled}
+use Rattle.explainer.proofs.Filled.{fill_front, along_filled, no_match_filled, replaced_filled}
 
 -- what is left behind a front of the known front
 left_filled : (d front left : List Base) (z : List Cell) → known_front z ≡ front ++ left

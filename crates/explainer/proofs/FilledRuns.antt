@@ -1,8 +1,7 @@
 -- A run on cells is the machine's run for every target.
-use Rattle.std.proofs.Common.{◌≡◌, ◌≢◌, ℕ, ◌+◌, ◌<◌, Some, List, [], ◌∷◌, ◌++◌, length, map, arith, refl, sym, ap, subst, ◌∙◌}
+use Rattle.std.proofs.Common.{◌≡◌, ◌≢◌, ℕ, List, [], ◌∷◌, ◌++◌, length, map, refl, sym, ap, subst, ◌∙◌}
 use Rattle.std.proofs.lemmas.List.{length-map, map-append}
 use Rattle.fuun_base.specs.declared.letters.Base.{Base}
-use Rattle.exec_loop.specs.Attempt as machine
 use Rattle.exec_loop.specs.Run as machine_run
 use Rattle.exec_loop.specs.declared.machine.RunEnd.{RunEnd}
 use Rattle.exec_loop.specs.declared.machine.RunEnd.TheVariants as run_end
@@ -11,7 +10,7 @@ use Rattle.sym_strand.specs.Cells.{start_cells}
 use Rattle.explainer.specs.Filling.{fill}
 use Rattle.explainer.specs.Attempt as one
 use Rattle.explainer.specs.Attempt.{Attempt, filled, filled_ending}
-use Rattle.explainer.specs.Run.{End, Finished, Budget, TooLong, Depends, LeadOn, rna_of, Run, SpendsBudget, StopsAt, RunsTo, IsRun}
+use Rattle.explainer.specs.Run.{End, Finished, Budget, TooLong, Depends, LeadOn, rna_of, Run, StopsAt, RunsTo}
 use Rattle.explainer.specs.Laws.{EndsAlike, RunsAlike, RunIsFilled}
 use Rattle.explainer.proofs.Filled.{fill_start}
 use Rattle.explainer.proofs.FilledAttempts.{attempt_is_filled, next_filled}

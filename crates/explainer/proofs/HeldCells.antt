@@ -1,6 +1,6 @@
 -- Items act on cells as they are held.
-use Rattle.std.proofs.Common.{◌≡◌, ℕ, zero, suc, ◌+◌, ◌-◌, ◌^◌, ◌<◌, ◌≤◌, ◌⊎◌, inl, inr, Bool, true, false, not, Option, Some, None, List, [], ◌∷◌, ◌++◌, length, drop, map, arith, refl, sym, ap, subst, ◌∙◌}
-use Rattle.std.specs.Prelude.{◌||◌, slice_get, slice_range, unwrap_or}
+use Rattle.std.proofs.Common.{◌≡◌, ℕ, zero, suc, ◌+◌, ◌^◌, ◌<◌, ◌≤◌, ◌⊎◌, inl, inr, not, List, [], ◌∷◌, ◌++◌, length, map, arith, refl, sym, ap, subst, ◌∙◌}
+use Rattle.std.specs.Prelude.{◌||◌, unwrap_or}
 use Rattle.std.specs.List.{flat_map}
 use Rattle.std.proofs.lemmas.Bool.{cases_lt}
 use Rattle.std.proofs.lemmas.List.{length-map, length-append}
@@ -18,7 +18,7 @@ use Rattle.sym_strand.specs.declared.cells.Cell.{Cell}
 use Rattle.sym_strand.specs.declared.cells.Cell.TheVariants.{Known}
 use Rattle.sym_strand.specs.Cells.{all_known, known_front}
 use Rattle.explainer.specs.Leading.{Leads, Fails, Depends, LeadAlong, FailAlong, DependAlong}
-use Rattle.explainer.specs.Replacement.{text_of, texts_of, quotes_target, depends_on_target, put_by}
+use Rattle.explainer.specs.Replacement.{text_of, quotes_target, depends_on_target, put_by}
 use Rattle.explainer.proofs.Putting.{put_quoted, quotes_above}
 
 -- patterns

@@ -10,3 +10,5 @@ pub mod HeldCells
 pub mod MadeOnCells
 pub mod ByAttempts
 pub mod ByParts
+pub mod OneAttempt
+pub mod OneRun

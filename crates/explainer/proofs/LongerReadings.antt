@@ -1,5 +1,5 @@
 -- A reading that comes to its end is that of each longer DNA.
-use Rattle.std.proofs.Common.{◌≡◌, ℕ, zero, suc, ◌+◌, ◌*◌, ◌-◌, ◌<◌, ◌≤◌, ◌⊎◌, inl, inr, Bool, true, false, Option, Some, None, List, [], ◌∷◌, ◌++◌, length, take, drop, min, arith, refl, ap, sym, ◌∙◌, subst, append_assoc, length-append}
+use Rattle.std.proofs.Common.{◌≡◌, ℕ, suc, ◌+◌, ◌*◌, ◌≤◌, ◌⊎◌, inl, inr, Bool, true, false, Option, Some, None, List, [], ◌∷◌, ◌++◌, length, take, drop, min, arith, refl, ap, sym, ◌∙◌, subst, append_assoc}
 use Rattle.std.specs.Prelude.{nat_lt}
 use Rattle.std.specs.Option.{option_map, option_and_then}
 use Rattle.std.proofs.lemmas.Option.{none-some, same_Some}
@@ -15,7 +15,7 @@ use Rattle.dna_items.specs.declared.items.TplItem.{TplItem}
 use Rattle.dna_items.specs.declared.items.TplItem.TheVariants.{Group, Len}
 use Rattle.dna_reader.specs.Constants.{consts}
 use Rattle.dna_reader.specs.Numeral.{numeral}
-use Rattle.dna_reader.specs.Piece.{Gives, GivesItem, GivesCommand, GivesEnd, Piece, pattern_piece, template_piece, reference, command, group_end}
+use Rattle.dna_reader.specs.Piece.{GivesItem, GivesCommand, Piece, pattern_piece, template_piece, reference, command}
 use Rattle.dna_reader.specs.Reading.{Table, Cut, joined, open_after, is_end, is_ended, IsCutBy, AreCutBy, IsCutting, items_of, commands_of, Read, reading_of, ReadsFrom}
 use Rattle.dna_reader.specs.Tables.{pattern_table, template_table}
 use Rattle.dna_reader.proofs.NumeralLemmas.{numeral_by_digits}

@@ -1,29 +1,25 @@
 -- From items as they are held to the attempt on cells, and from attempts to a run.
-use Rattle.std.proofs.Common.{◌≡◌, ◌≢◌, ℕ, ◌+◌, ◌-◌, ◌^◌, ◌<◌, ◌≤◌, ◌⊎◌, inl, inr, Bool, true, false, Option, Some, None, cond, List, [], ◌∷◌, ◌++◌, length, drop, map, arith, refl, sym, ap, subst, ◌∙◌, append-nil, append_assoc}
+use Rattle.std.proofs.Common.{◌≡◌, ℕ, ◌-◌, ◌^◌, ◌<◌, ◌≤◌, inl, inr, Bool, true, false, Some, List, [], ◌∷◌, ◌++◌, length, drop, arith, refl, sym, ap, subst, ◌∙◌}
 use Rattle.std.specs.Prelude.{if◌then◌else◌, slice_range}
 use Rattle.std.specs.List.{flat_map}
-use Rattle.std.proofs.lemmas.List.{length-map, length-append, length-drop}
-use Rattle.std.proofs.lemmas.Option.{none-some, same_Some}
-use Rattle.std.proofs.Math.Seq.{drop-append_seam}
+use Rattle.std.proofs.lemmas.List.{length-map, length-drop}
 use Rattle.fuun_base.specs.declared.letters.Base.{Base}
 use Rattle.dna_items.specs.declared.items.PatItem.{PatItem}
 use Rattle.dna_items.specs.declared.items.TplItem.{TplItem}
-use Rattle.dna_items.specs.Held.{held_pattern_item, held_pattern, held_template}
+use Rattle.dna_items.specs.Held.{held_pattern_item}
 use Rattle.dna_reader.specs.Takers.{Appended}
 use Rattle.matcher.specs.Groups.{AreGroups}
-use Rattle.matcher.specs.Match.{last_place}
 use Rattle.matcher.proofs.OpenGroups.{stops_most}
 use Rattle.exec_loop.specs.Readings.{BothAreRead, OneRanOut}
 use Rattle.exec_loop.proofs.HeldItems.{groups_held}
 use Rattle.sym_strand.specs.declared.cells.Cell.{Cell}
-use Rattle.sym_strand.specs.Cells.{all_known, known_front, start_cells}
-use Rattle.sym_strand.specs.Segments.{StandFor}
+use Rattle.sym_strand.specs.Cells.{all_known, known_front}
 use Rattle.explainer.specs.Attempt as one
 use Rattle.explainer.specs.Attempt.{Attempt, ReadsBoth, RanOutOn, IsAttempt, EndsBy, DependsOn, InReading, InMatching, InTemplate, next_cells}
 use Rattle.explainer.specs.Leading.{LeadAlong, FailAlong, DependAlong}
 use Rattle.explainer.specs.Passing.{LeadTo}
 use Rattle.explainer.specs.Replacement.{texts_of, put_by, depends_on_target, replaced}
-use Rattle.explainer.specs.Making.{MakesAttempt, Comes, PutsSo, PutsBehind, ComesOfItems}
+use Rattle.explainer.specs.Making.{Comes, PutsSo, ComesOfItems}
 use Rattle.explainer.specs.declared.attempt.Next.{Next}
 use Rattle.explainer.specs.declared.attempt.Next.TheVariants.{Cells, TooLong, Finished, Depends}
 use Rattle.explainer.proofs.Filled.{front_most, front_of_all_known, front_of_some_target}

@@ -1,15 +1,13 @@
 -- What templates put on cells, item by item.
-use Rattle.std.proofs.Common.{◌≡◌, ℕ, zero, suc, ◌+◌, ◌-◌, ◌^◌, ◌<◌, ◌≤◌, ◌==◌, Bool, true, false, not, Option, Some, None, MatchOption, Result, Ok, Err, IfOk, List, [], ◌∷◌, ◌++◌, All, length, get_or, take, drop, map, arith, refl, sym, ap, subst, ◌∙◌, append-nil, append_assoc}
+use Rattle.std.proofs.Common.{◌≡◌, ℕ, zero, suc, ◌+◌, ◌-◌, ◌<◌, ◌≤◌, Bool, true, false, not, Some, None, Result, IfOk, List, [], ◌∷◌, ◌++◌, length, get_or, take, drop, map, arith, refl, sym, ap, subst, ◌∙◌, append-nil}
 use Rattle.std.specs.Prelude.{◌||◌, slice_get, slice_range, unwrap_or}
-use Rattle.std.specs.List.{flat_map, list_any}
-use Rattle.std.proofs.lemmas.List.{length-map, length-append, map-append, take_more, take_all, drop_more, drop_all, take-append-drop}
+use Rattle.std.specs.List.{flat_map}
+use Rattle.std.proofs.lemmas.List.{length-map, length-append, map-append, take_more, take_all, drop_more, take-append-drop}
 use Rattle.std.proofs.lemmas.Grind.{flat_map-append}
-use Rattle.std.proofs.lemmas.Option.{slice_get-get_or, slice_get_past}
-use Rattle.fuun_base.specs.declared.letters.Base.{Base}
-use Rattle.fuun_base.specs.Quote.{protect, asnat}
+use Rattle.fuun_base.specs.Quote.{protect}
 use Rattle.fuun_base.proofs.QuoteLemmas.{protect_of-nil}
 use Rattle.dna_items.specs.declared.items.TplItem.{TplItem}
-use Rattle.dna_items.specs.declared.items.TplItem.TheVariants.{Base as TplLiteral, Group, Len}
+use Rattle.dna_items.specs.declared.items.TplItem.TheVariants.{Group}
 use Rattle.sym_strand.specs.declared.cells.Cell.{Cell}
 use Rattle.sym_strand.specs.declared.cells.Cell.TheVariants.{Known, Target}
 use Rattle.sym_strand.specs.Cells.{all_known, known_front}

@@ -1,5 +1,5 @@
 -- What cells stand for in a target.
-use Rattle.std.specs.Prelude.{ℕ, List, map, slice_index_or}
+use Rattle.std.specs.Prelude.{List, map, slice_index_or}
 use Rattle.fuun_base.specs.declared.letters.Base.{Base}
 use Rattle.fuun_base.specs.declared.letters.Base.TheVariants.{I}
 use Rattle.sym_strand.specs.declared.cells.Cell.{Cell}

@@ -15,6 +15,17 @@ pub fn one_way_along()
     ensures failures { FailuresDoNotDepend }
 {}
 
+/// Cells have one attempt at most, and none where it depends on the target.
+pub fn one_attempt_on_cells()
+    ensures once { HasOneAttempt }
+    ensures apart { AttemptsDoNotDepend }
+{}
+
+/// Cells have one run at most, for a budget and a limit.
+pub fn one_run_on_cells()
+    ensures { HasOneRun }
+{}
+
 /// The attempt on cells is the machine's for every target.
 pub fn attempt_for_every_target()
     ensures { AttemptIsFilled }

@@ -12,8 +12,7 @@ use sym_strand::SegList;
 const PATCH: &str = "IIPIPICPIICIPCPIICIFPPCCIIC";
 
 // A copy of two bases from place 1 to place 2.
-const COPY: &str =
-    "IIPIPCPIICIIPIPCPIICIIPIPCPIICIICIFPPIFPCPIFPCPIFPICPIFPICPIIC";
+const COPY: &str = "IIPIPCPIICIIPIPCPIICIIPIPCPIICIICIFPPIFPCPIFPCPIFPICPIFPICPIIC";
 
 const LIMIT: u64 = 1 << 26;
 
@@ -44,14 +43,39 @@ fn text_of(alloc: Global, found: &Explained) -> Result<MemSink, Fail> {
 fn prefixes_are_explained(rt: HostRuntime) -> Result<(), Fail> {
     let alloc = rt.alloc();
     for (letters, target, attempts, text) in [
-        (PATCH, 4, 1, "end budget 1\ntarget 0 2\nknown II\ntarget 3 4\n"),
-        (PATCH, 1 << 40 >> 1, 1, "end budget 1\ntarget 0 2\nknown II\ntarget 3 549755813888\n"),
-        (COPY, 4, 1, "end budget 1\ntarget 0 2\ntarget 1 3\ntarget 2 4\n"),
+        (
+            PATCH,
+            4,
+            1,
+            "end budget 1\ntarget 0 2\nknown II\ntarget 3 4\n",
+        ),
+        (
+            PATCH,
+            1 << 40 >> 1,
+            1,
+            "end budget 1\ntarget 0 2\nknown II\ntarget 3 549755813888\n",
+        ),
+        (
+            COPY,
+            4,
+            1,
+            "end budget 1\ntarget 0 2\ntarget 1 3\ntarget 2 4\n",
+        ),
         ("CIICIIC", 0, 1, "end budget 1\n"),
         ("CIICIIC", 0, 2, "end finished 2\n"),
-        ("IIICFPICFP", 0, 1, "end finished 1\nrna CFPICFP\nknown IIICFPICFP\n"),
-        ("IFFIIICIICC", 3, 0, "end budget 0\nknown IFFIIICIICC\ntarget 0 3\n"),
-        ("IFFCIICIICFC", 3, 1, "end budget 1\nknown FC\ntarget 0 3\n"),
+        (
+            "IIICFPICFP",
+            0,
+            1,
+            "end finished 1\nrna CFPICFP\nknown IIICFPICFP\n",
+        ),
+        (
+            "IFFIIICIICC",
+            3,
+            0,
+            "end budget 0\nknown IFFIIICIICC\ntarget 0 3\n",
+        ),
+        ("IFFCIICIICFC", 0, 1, "end budget 1\nknown FC\n"),
     ] {
         let found = explained(alloc, letters, target, attempts, 1 << 40)?;
         let found = found.map_err(|_| Fail::from("not explained"))?;
@@ -67,9 +91,34 @@ fn what_depends_is_not_explained(rt: HostRuntime) -> Result<(), Fail> {
     for (letters, target, attempts, limit, error) in [
         (PATCH, 4, 2, LIMIT, ExplainError::Depends { attempt: 1 }),
         ("CIICIIC", 1, 1, LIMIT, ExplainError::Depends { attempt: 0 }),
-        ("IFFIIICIIC", 3, 1, LIMIT, ExplainError::Depends { attempt: 0 }),
-        ("IIPIPCPIICIICIFCPPIIC", 3, 1, 24, ExplainError::Depends { attempt: 0 }),
-        ("IIPIPCPIICIICCCCCIFPPIFPPIFPPIFPPIFPPIFPPIFPPIFPPIFPPIFPPIIC", 70, 1, 130, ExplainError::TooLong { attempt: 0 }),
+        (
+            "IFFIIICIIC",
+            3,
+            1,
+            LIMIT,
+            ExplainError::Depends { attempt: 0 },
+        ),
+        (
+            "IIPIPCPIICIICIFCPPIIC",
+            3,
+            1,
+            24,
+            ExplainError::Depends { attempt: 0 },
+        ),
+        (
+            "IIPIPIICCCCPIICIICIFPPIFPPIFPPIIC",
+            70,
+            1,
+            130,
+            ExplainError::TooLong { attempt: 0 },
+        ),
+        (
+            "IFFCIICIICFC",
+            3,
+            1,
+            LIMIT,
+            ExplainError::Depends { attempt: 0 },
+        ),
     ] {
         let found = explained(alloc, letters, target, attempts, limit)?;
         assert_eq!(&rt; found.err(), Some(error), "at {letters}");

@@ -1,4 +1,4 @@
-use Rattle.std.proofs.Common.{◌≡◌, ◌-◌, ℕ, inl, List, Result, Ok, Err, IfOk, take, drop, ap, sym, subst, ◌∙◌}
+use Rattle.std.proofs.Common.{◌≡◌, ◌-◌, ℕ, inl, List, Result, Ok, Err, IfOk, take, drop, ap, subst, ◌∙◌}
 use Rattle.std.proofs.lemmas.List.{take_rest}
 use Rattle.dna_items.specs.declared.items.PatItem.{PatItem}
 use Rattle.dna_items.specs.declared.items.TplItem.{TplItem}
@@ -7,7 +7,6 @@ use Rattle.explainer.specs.Passing.{MatchesSo}
 use Rattle.explainer.specs.Replacement.{texts_of}
 use Rattle.explainer.specs.Making.{PutsSo, ComesOfItems}
 use Rattle.explainer.specs.declared.attempt.Next.{Next}
-use Rattle.explainer.specs.declared.matching.CellMatch.{CellMatch}
 use Rattle.explainer.specs.declared.matching.CellMatch.TheVariants.{Matched}
 use Rattle.explainer.proofs.attempt.rewrite.Goals as goal
 

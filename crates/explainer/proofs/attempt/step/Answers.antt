@@ -1,4 +1,4 @@
-use Rattle.std.proofs.Common.{◌≡◌, ◌^◌, ◌≤◌, Result, Ok, Err, IfOk, length, refl, arith}
+use Rattle.std.proofs.Common.{◌^◌, ◌≤◌, Result, Ok, Err, IfOk, length, refl, arith}
 use Rattle.std.proofs.lemmas.Option.{MatchOption-at_some, MatchOption-at_none}
 use Rattle.sym_strand.specs.Cells.{all_known}
 use Rattle.explainer.proofs.Filled.{front_most}

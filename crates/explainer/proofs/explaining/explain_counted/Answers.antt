@@ -1,11 +1,10 @@
-use Rattle.std.proofs.Common.{◌≡◌, ◌+◌, ◌≤◌, ℕ, Err, length, map, arith, sym, ap, subst, ◌∙◌}
+use Rattle.std.proofs.Common.{◌≡◌, map, arith, subst}
 use Rattle.std.proofs.lemmas.List.{length-append, length-map}
 use Rattle.sym_strand.specs.declared.cells.Cell.TheVariants.{Known}
 use Rattle.sym_strand.specs.Cells.{places_from, start_cells}
 use Rattle.sym_strand.proofs.Places.{length-places}
 use Rattle.explainer.specs.Making.{Comes}
 use Rattle.explainer.specs.Run.{EndsSo, TooLong, Depends}
-use Rattle.explainer.specs.declared.explained.ExplainError.TheVariants as error
 use Rattle.explainer.proofs.ByAttempts.{HasMade, made_none, made_more, explains_spent, explains_finished, ends_too_long, ends_depending, same_too_long, same_depends}
 use Rattle.explainer.proofs.explaining.explain_counted.Goals as goal
 

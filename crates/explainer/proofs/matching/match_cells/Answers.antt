@@ -1,4 +1,4 @@
-use Rattle.std.proofs.Common.{◌≡◌, ◌≤◌, length, arith, sym, subst}
+use Rattle.std.proofs.Common.{arith, sym, subst}
 use Rattle.explainer.specs.Passing.{LeadTo}
 use Rattle.explainer.proofs.ByItems.{gone_within, gone_open, gone_on, gone_through}
 use Rattle.explainer.proofs.matching.match_cells.Goals as goal

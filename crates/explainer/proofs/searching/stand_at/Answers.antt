@@ -1,4 +1,4 @@
-use Rattle.std.proofs.Common.{◌≡◌, ◌+◌, ◌≤◌, length, sym, subst}
+use Rattle.std.proofs.Common.{◌+◌, sym, subst}
 use Rattle.std.proofs.lemmas.Option.{slice_get-get_or}
 use Rattle.explainer.proofs.ByPlaces.{SoFar, so_far_same, so_far_hole, sure_of, unsure_of}
 use Rattle.explainer.proofs.searching.stand_at.Goals as goal

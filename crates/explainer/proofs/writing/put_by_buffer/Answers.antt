@@ -1,4 +1,4 @@
-use Rattle.std.proofs.Common.{◌≡◌, ◌+◌, ◌-◌, ◌≤◌, length, take, drop, map, arith, sym, ap, ◌∙◌, length-drop}
+use Rattle.std.proofs.Common.{take, map, arith, ap, ◌∙◌, length-drop}
 use Rattle.std.proofs.lemmas.Result.{MatchResult-from_err}
 use Rattle.std.proofs.lemmas.List.{take_rest}
 use Rattle.fuun_base.specs.Letter.{letter_of}

@@ -1,4 +1,4 @@
-use Rattle.std.proofs.Common.{◌≡◌, ◌≤◌, ◌++◌, Some, None, [], length, ap, sym, ◌∙◌, append-nil, arith, option_copied}
+use Rattle.std.proofs.Common.{◌≡◌, ◌++◌, Some, None, length, ap, sym, ◌∙◌, append-nil, arith, option_copied}
 use Rattle.std.specs.Prelude.{slice_get}
 use Rattle.explainer.specs.Making.{cells_of}
 use Rattle.explainer.proofs.Putting.{puts_same, no_text, some_text}

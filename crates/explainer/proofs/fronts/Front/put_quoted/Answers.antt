@@ -1,4 +1,4 @@
-use Rattle.std.proofs.Common.{◌≡◌, ◌<◌, Some, None, [], length, map, ap, sym, ◌∙◌, arith, option_copied}
+use Rattle.std.proofs.Common.{◌≡◌, Some, None, [], map, ap, sym, ◌∙◌, option_copied}
 use Rattle.std.specs.Prelude.{slice_get}
 use Rattle.std.proofs.lemmas.Option.{MatchOption-at_some, MatchOption-at_none}
 use Rattle.fuun_base.specs.Quote.{protect}
