@@ -1,5 +1,5 @@
 -- Words over files that are told have exactly one output.
-use Rattle.std.proofs.Common.{◌≡◌, false, ℕ, Option, Some, None, Result, Ok, Err, List, ◌∷◌, refl, sym, ap, ◌∙◌, subst, arith}
+use Rattle.std.proofs.Common.{◌≡◌, false, ℕ, Option, Some, None, Result, Ok, Err, List, [], ◌∷◌, refl, sym, ap, ◌∙◌, subst, arith}
 use Rattle.std.specs.List.{AllByRecursion}
 use Rattle.std.specs.Option.{option_map}
 use Rattle.fuun_base.specs.declared.letters.Base.{Base}
@@ -26,19 +26,21 @@ use Rattle.fuun_top.specs.declared.status.InFile.{InFile}
 use Rattle.fuun_top.specs.declared.status.InFile.TheVariants as file
 use Rattle.fuun_top.specs.declared.status.Status.{Status}
 use Rattle.fuun_top.specs.declared.status.Status.TheVariants.{Done, Usage}
-use Rattle.fuun_top.specs.Output.{Output, Body, Text, Drawing, IsBody, IsRunOutput, IsTraceOutput, IsListingOutput, IsBenchOutput, IsAnswer, IsOutputOf, answered, OutputBy, OutputOf, plain_body, run_body, spent_is_done, status_by, refusal, picture_side, most_layers}
+use Rattle.fuun_top.specs.Output.{Output, Body, Text, Drawing, IsBody, IsRunOutput, IsTraceOutput, IsListingOutput, IsRewindOutput, IsBenchOutput, IsAnswer, IsOutputOf, answered, OutputBy, OutputOf, plain_body, run_body, spent_is_done, status_by, refusal, picture_side, most_layers}
 use Rattle.fuun_top.specs.Making.{IsMade, assemble_refusal, drawn, patch_prefix, told}
 use Rattle.fuun_top.specs.Bench.{load_dna, load_limit, summary_of}
 use Rattle.fuun_top.specs.OutputLaws.{IsTold, AreTold, HasOutput, HasOneOutput}
-use Rattle.fuun_top.specs.Reading.{Files, Reading, then_read, within, bytes_in, dna_in, judged_dna, prefix_in, prefix_files, files_of, rna_in, judged_rna, start_in, text_file, inputs_of}
+use Rattle.fuun_top.specs.Reading.{Files, Reading, then_read, within, bytes_in, dna_in, judged_dna, prefix_in, prefix_files, files_of, rna_in, judged_rna, start_in, text_file, script_in, judged_script, guided_in, with_prefix, inputs_of}
 use Rattle.fuun_top.specs.Asked.{sorted}
 use Rattle.fuun_top.specs.declared.request.Asked.{Asked}
-use Rattle.fuun_top.specs.declared.request.Asked.TheVariants.{Run as asked_run, Trace as asked_trace, Rna as asked_rna, Listing as asked_listing, Text as asked_text, Bench as asked_bench}
+use Rattle.fuun_top.specs.declared.request.Asked.TheVariants.{Run as asked_run, Trace as asked_trace, Rna as asked_rna, Listing as asked_listing, Text as asked_text, Rewind as asked_rewind, Bench as asked_bench}
 use Rattle.fuun_words.specs.declared.request.Request.{Request}
 use Rattle.fuun_words.specs.declared.request.RunWords.{RunWords}
 use Rattle.fuun_words.specs.Requests.{request}
 use Rattle.fuun_top.specs.Texts.{letters}
 use Rattle.tracer.specs.Lines.{trace_text}
+use Rattle.rewinder.specs.declared.orders.Order.{Order}
+use Rattle.rewinder.proofs.TextLemmas.{has_text, one_text}
 use Rattle.workload.specs.Summary.{summary_text}
 
 -- what has an output, and what has only one
@@ -108,6 +110,15 @@ bench_one : (seed size rounds : ℕ) → HasOne (IsBenchOutput seed size rounds)
 bench_one seed size rounds a b p q =
     p.tells ∙ ap (λ (run : Run). record { status = Done; bytes = summary_text (summary_of run) }) (one_run load_limit rounds (load_dna seed size rounds) p.run q.run p.is q.is) ∙ sym q.tells
 
+rewind_has : (dna : List Base) (orders : List Order) (limit : ℕ) → Has (IsRewindOutput dna orders limit)
+rewind_has dna orders limit =
+    let told = has_text limit dna orders 0 dna (omega arith) (record { attempts = []; leads = refl; count = refl }) in
+    (record { status = Done; bytes = told.1 }, record { last = told.0; text = told.1; writes = told.2; is = refl })
+
+rewind_one : (dna : List Base) (orders : List Order) (limit : ℕ) → HasOne (IsRewindOutput dna orders limit)
+rewind_one dna orders limit a b p q =
+    p.is ∙ ap (λ (text : List ℕ). record { status = Done; bytes = text }) (one_text limit dna orders 0 p.last q.last p.text q.text p.writes q.writes).1 ∙ sym q.is
+
 -- what is made so has an output, and only one
 answer_has : {A : Type 0} (Is : Result A Status → Type 0) (text : A → List ℕ) → ((made : Result A Status) × Is made) → Has (IsAnswer Is text)
 answer_has Is text (made, is) = (answered text made, record { made = made; is = is; tells = refl })
@@ -130,6 +141,7 @@ output_has (inputs.Run verb dna budget limit) = run_has verb dna budget limit
 output_has (inputs.Trace dna budget limit) = trace_has dna budget limit
 output_has (inputs.Plain plain) = body_has Done (plain_body plain)
 output_has (inputs.Listing dna count) = listing_has dna count
+output_has (inputs.Rewind dna orders limit) = rewind_has dna orders limit
 output_has (inputs.Text verb text) = answer_has (IsMade verb text) letters (made_has verb text)
 output_has (inputs.Bench seed size rounds) = bench_has seed size rounds
 
@@ -138,6 +150,7 @@ output_one (inputs.Run verb dna budget limit) = run_one verb dna budget limit
 output_one (inputs.Trace dna budget limit) = trace_one dna budget limit
 output_one (inputs.Plain plain) = body_one Done (plain_body plain)
 output_one (inputs.Listing dna count) = listing_one dna count
+output_one (inputs.Rewind dna orders limit) = rewind_one dna orders limit
 output_one (inputs.Text verb text) = answer_one (IsMade verb text) letters (made_one verb text)
 output_one (inputs.Bench seed size rounds) = bench_one seed size rounds
 
@@ -172,6 +185,17 @@ start_known files words told =
     then_known (dna_in files file.Dna words.dna) _ (dna_known files file.Dna words.dna told.0) (λ dna.
     then_known (prefix_in files words.prefix) _ (prefix_known files words.prefix told.1) (λ prefix. (_, refl)))
 
+script_known : (files : Files) (name : List ℕ) → IsTold files name → Known (script_in files name)
+script_known files name told =
+    then_known (bytes_in files file.Script name) (λ contents. Some (judged_script contents)) (bytes_known files file.Script name told)
+    (λ contents. (judged_script contents, refl))
+
+guided_known : (files : Files) (prefix : Option (List ℕ)) (script : List ℕ) → AllByRecursion (IsTold files) (with_prefix prefix (script ∷ [])) → Known (guided_in files prefix script)
+guided_known files None script told = then_known (script_in files script) _ (script_known files script told.0) (λ orders. (_, refl))
+guided_known files (Some name) script told =
+    then_known (dna_in files file.Prefix name) _ (dna_known files file.Prefix name told.0) (λ bases.
+    then_known (script_in files script) _ (script_known files script told.1.0) (λ orders. (_, refl)))
+
 inputs_known : (files : Files) (asked : Asked) → AllByRecursion (IsTold files) (files_of asked) → Known (inputs_of files asked)
 inputs_known files (asked_run verb words) told =
     then_known (start_in files words) (λ dna. Some (Ok (inputs.Run verb dna words.budget words.limit))) (start_known files words told) (λ dna. (_, refl))
@@ -179,6 +203,9 @@ inputs_known files (asked_trace words) told =
     then_known (start_in files words) (λ dna. Some (Ok (inputs.Trace dna words.budget words.limit))) (start_known files words told) (λ dna. (_, refl))
 inputs_known files (asked_rna verb name) told = then_known (rna_in files name) _ (rna_known files name told.0) (λ commands. (_, refl))
 inputs_known files (asked_listing name count) told = then_known (dna_in files file.Dna name) _ (dna_known files file.Dna name told.0) (λ dna. (_, refl))
+inputs_known files (asked_rewind words) told =
+    then_known (dna_in files file.Dna words.dna) _ (dna_known files file.Dna words.dna told.0) (λ dna.
+    then_known (guided_in files words.prefix words.script) _ (guided_known files words.prefix words.script told.1) (λ guided. (_, refl)))
 inputs_known files (asked_text verb name) told = then_known (bytes_in files (text_file verb) name) _ (bytes_known files (text_file verb) name told.0) (λ contents. (_, refl))
 inputs_known files (asked_bench seed size rounds) told = (_, refl)
 

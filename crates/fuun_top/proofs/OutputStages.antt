@@ -91,6 +91,7 @@ output_told (inputs.Run verb dna budget limit) output is = inl (ap stage_of (bod
 output_told (inputs.Trace dna budget limit) output is = inl (ap (λ (o : Output). stage_of o.status) is.tells ∙ end_stage false is.run.end)
 output_told (inputs.Plain plain) output is = inl (ap stage_of (body_status Done (plain_body plain) output is))
 output_told (inputs.Listing dna count) output is = inl (ap (λ (o : Output). stage_of o.status) is.is)
+output_told (inputs.Rewind dna orders limit) output is = inl (ap (λ (o : Output). stage_of o.status) is.is)
 output_told (inputs.Text verb text) output is = answer_told letters is.made output (made_refused verb text is.made is.is) is.tells
 output_told (inputs.Bench seed size rounds) output is = inl (ap (λ (o : Output). stage_of o.status) is.tells)
 

@@ -1,5 +1,5 @@
 -- A reading that was refused.
-use Rattle.std.proofs.Common.{◌≡◌, ◌⊎◌, inl, inr, ℕ, Option, Some, None, Result, Ok, Err, List, IfSome}
+use Rattle.std.proofs.Common.{◌≡◌, ◌⊎◌, inl, inr, ℕ, Option, Some, None, Result, Ok, Err, List, IfSome, subst, arith, ◌∙◌}
 use Rattle.fuun_top.specs.declared.status.Status.{Status}
 use Rattle.fuun_top.specs.declared.status.Status.TheVariants.{ReadFault, NoMemory}
 use Rattle.fuun_top.specs.Reading.{Files, Reading, then_read}
@@ -38,3 +38,32 @@ reads_refused files names more known next status given_old given_new faults_old 
   fault = λ e. reads.fault (cc e);
   no_fault = λ other. reads.no_fault (λ e. other (cc e));
 }
+
+-- a value was read, and then what comes behind it was refused
+second_agrees : {A B C : Type 0} (known : Reading A) (value : A) (next : A → Reading B) (last : A → B → Reading C) (status : Status) → Agree known (Ok value) → Agree (next value) (Err status)
+    → Agree (then_read known (λ a. then_read (next a) (last a))) (Err status)
+second_agrees None value next last status first second = tt
+second_agrees (Some (Err refused)) value next last status (inl e) second = absurd (cc e)
+second_agrees (Some (Err refused)) value next last status (inr (inl e)) second = absurd (cc e)
+second_agrees (Some (Err refused)) value next last status (inr (inr e)) second = absurd (cc e)
+second_agrees {A} (Some (Ok read)) value next last status (inl e) second =
+    let same : value ≡ read = cc e in
+    refusal_agrees (next read) (last read) status (subst (λ (a : A). Agree (next a) (Err status)) same second)
+second_agrees (Some (Ok read)) value next last status (inr (inl e)) second = absurd (cc e)
+second_agrees (Some (Ok read)) value next last status (inr (inr e)) second = absurd (cc e)
+
+pub reads_refused_behind : {A B C : Type 0} (files : Files) (names more all : List (List ℕ)) (known : Reading A) (value : A) (next : A → Reading B) (last : A → B → Reading C) (status : Status)
+    (given_old given_mid given_new faults_old faults_mid faults_new : ℕ)
+    → Reads files names known (Ok value) given_old given_mid faults_old faults_mid → Reads files more (next value) (Err status) given_mid given_new faults_mid faults_new
+    → Reads files all (then_read known (λ a. then_read (next a) (last a))) (Err status) given_old given_new faults_old faults_new
+reads_refused_behind files names more all known value next last status given_old given_mid given_new faults_old faults_mid faults_new first second =
+    let kept : faults_mid ≡ faults_old = first.no_fault (λ e. cc e) in
+    record {
+      agrees = second_agrees known value next last status first.agrees second.agrees;
+      refused = second.refused;
+      given = tt;
+      too_long = λ file e. omega (arith, second.too_long file (cc e), first.rises);
+      rises = omega (arith, first.rises, second.rises);
+      fault = λ e. omega (arith, kept, second.fault (cc e));
+      no_fault = λ other. second.no_fault (λ e. other (cc e)) ∙ kept;
+    }

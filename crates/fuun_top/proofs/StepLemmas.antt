@@ -3,6 +3,9 @@ use Rattle.std.proofs.Common.{◌≡◌, inl, inr, ℕ, Option, Some, None, Ok, 
 use Rattle.fuun_base.specs.declared.letters.Base.{Base}
 use Rattle.fuun_base.specs.Ticks.{Ticks}
 use Rattle.exec_loop.specs.State.{State}
+use Rattle.rewinder.specs.declared.orders.Order.{Order}
+use Rattle.rewinder.specs.Rewinding.{Rewinding}
+use Rattle.rewinder.specs.Weights.{ScriptWeighs, TicksForScript}
 use Rattle.exec_loop.specs.Run.{IsRun}
 use Rattle.exec_loop.specs.Weights.{TicksForRun, WeighTogether}
 use Rattle.fuun_top.specs.declared.inputs.Inputs.{Inputs}
@@ -10,7 +13,7 @@ use Rattle.fuun_top.specs.declared.inputs.Inputs.TheVariants as inputs
 use Rattle.fuun_top.specs.declared.request.Asked.{Asked}
 use Rattle.fuun_top.specs.Asked.{sorted}
 use Rattle.fuun_top.specs.Reading.{Files, Reading, inputs_of}
-use Rattle.fuun_top.specs.Steps.{most_height, start_steps, RunTicks, InputsTick, ReadingTicks, CallTicks}
+use Rattle.fuun_top.specs.Steps.{most_height, start_steps, RewindTicks, RunTicks, InputsTick, ReadingTicks, CallTicks}
 use Rattle.fuun_top.proofs.TopLemmas.{Agrees}
 use Rattle.fuun_words.specs.declared.request.Request.{Request}
 
@@ -28,12 +31,23 @@ run_ticked state dna budget limit old mid new same same_limit started ticked = �
     let ticks = ticked run total is_run weighs in
     (omega (arith, started.0, ticks.0), omega (arith, started.1, ticks.1))
 
+-- the start, and then the orders of a script
+pub rewind_ticked : (made : Rewinding) (dna : List Base) (orders : List Order) (limit old mid new : ℕ) → made ≡ record { start = dna; limit = limit; attempt = 0; dna = dna; reached = 0 }
+    → Ticks old mid (start_steps (length dna)) → TicksForScript (most_height made.limit) made orders mid new → RewindTicks dna orders limit old new
+rewind_ticked made dna orders limit old mid new is started ticked = λ total weigh.
+    let ticks = ticked total (subst (λ (r : Rewinding). ScriptWeighs (most_height r.limit) r.limit r.start orders r.attempt r.reached total) (sym is) weigh) in
+    (omega (arith, started.0, ticks.0), omega (arith, started.1, ticks.1))
+
+pub rewind_not_started : (dna : List Base) (orders : List Order) (limit old new : ℕ) → Ticks old new (start_steps (length dna)) → RewindTicks dna orders limit old new
+rewind_not_started dna orders limit old new ticks = λ total weigh. (ticks.0, omega (arith, ticks.1))
+
 -- no node was made
 none_of_inputs : (inputs : Inputs) (old : ℕ) → InputsTick inputs old old
 none_of_inputs (inputs.Run verb dna budget limit) old = λ run total is weigh. (omega arith, omega arith)
 none_of_inputs (inputs.Trace dna budget limit) old = λ run total is weigh. (omega arith, omega arith)
 none_of_inputs (inputs.Plain plain) old = refl
 none_of_inputs (inputs.Listing dna count) old = (omega arith, omega arith)
+none_of_inputs (inputs.Rewind dna orders limit) old = λ total weighs. (omega arith, omega arith)
 none_of_inputs (inputs.Text verb text) old = refl
 none_of_inputs (inputs.Bench seed size rounds) old = λ run total is weigh. (omega arith, omega arith)
 

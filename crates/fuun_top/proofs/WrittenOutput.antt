@@ -19,10 +19,15 @@ use Rattle.fuun_top.specs.declared.request.RunVerb.{RunVerb}
 use Rattle.fuun_top.specs.declared.request.RunVerb.TheVariants as verbs
 use Rattle.fuun_top.specs.declared.status.Status.{Status}
 use Rattle.fuun_top.specs.declared.status.Status.TheVariants.{Done, WriteFault, NoMemory}
-use Rattle.fuun_top.specs.Output.{Output, Text, Drawing, IsBody, IsRunOutput, IsTraceOutput, IsListingOutput, IsBenchOutput, IsAnswer, plain_body, refusal, status_by, picture_side, most_layers}
+use Rattle.fuun_top.specs.Output.{Output, Text, Drawing, IsBody, IsRunOutput, IsTraceOutput, IsListingOutput, IsRewindOutput, IsBenchOutput, IsAnswer, plain_body, refusal, status_by, picture_side, most_layers}
 use Rattle.fuun_top.specs.Texts.{letters}
-use Rattle.fuun_top.specs.WritingRoom.{Wrote, Whole, CutOff, SpentRoom, NoRoom, Makes, Sums, DrewRun, IsImageOf, status_after, status_listed, status_traced}
+use Rattle.fuun_top.specs.WritingRoom.{Wrote, Whole, CutOff, SpentRoom, NoRoom, Makes, Sums, DrewRun, IsImageOf, status_after, status_listed, status_rewound, status_traced}
 use Rattle.tracer.specs.Lines.{trace_text}
+use Rattle.rewinder.specs.declared.orders.Order.{Order}
+use Rattle.rewinder.specs.declared.orders.RewindError.{RewindError}
+use Rattle.rewinder.specs.declared.orders.RewindError.TheVariants as rewind
+use Rattle.rewinder.specs.Rewinding.{Rewinding, AllCommanded}
+use Rattle.rewinder.specs.Texts.{Writes}
 use Rattle.workload.specs.declared.summary.Summary.{Summary}
 use Rattle.workload.specs.Summary.{summary_text}
 use Rattle.fuun_top.specs.Bench.{load_dna, load_limit}
@@ -157,6 +162,35 @@ pub summary_put : {T E : Type 0} (seed size rounds : ℕ) (summary : Summary) (w
 summary_put seed size rounds summary written result old new before after sums told puts cause =
     output_put (IsBenchOutput seed size rounds) (record { status = Done; bytes = summary_text summary }) written result old new before after
     (record { run = sums.run; is = sums.is; tells = ap (λ (s : Summary). record { status = Done; bytes = summary_text s }) sums.tells }) told puts cause
+
+-- what the orders of a script write, from the start on
+rewound_is : {T E : Type 0} (old new : Rewinding) (orders : List Order) (obeyed : Result T E) (told now : Option (List ℕ)) → old.attempt ≡ 0 → (put : AllCommanded old new orders obeyed told now)
+    → IsRewindOutput old.start orders old.limit (record { status = Done; bytes = put.text })
+rewound_is old new orders obeyed told now first put = record {
+  last = put.last;
+  text = put.text;
+  writes = subst (λ place. Writes old.limit old.start orders place put.last put.text) first put.writes;
+  is = refl;
+}
+
+-- what the orders of a script write was put, whole or in part
+rewound_put : {T : Type 0} (old new : Rewinding) (orders : List Order) (obeyed : Result T RewindError) (result : Status) (told now : Option (List ℕ)) (before after : ℕ)
+    → old.attempt ≡ 0 → AllCommanded old new orders obeyed told now → (obeyed ≡ Err rewind.WriteFault → Rose before after) → (obeyed ≢ Err rewind.WriteFault → after ≡ before)
+    → result ≡ status_rewound obeyed → Wrote (IsRewindOutput old.start orders old.limit) result told now before after
+rewound_put old new orders (Ok value) result told now before after first put rose kept is =
+    Whole (record { status = Done; bytes = put.text }) (rewound_is old new orders (Ok value) told now first put) is put.puts (kept (λ e. cc e))
+rewound_put old new orders (Err rewind.WriteFault) result told now before after first put rose kept is =
+    CutOff (record { status = Done; bytes = put.text }) (rewound_is old new orders (Err rewind.WriteFault) told now first put) is put.puts (rose refl)
+rewound_put old new orders (Err rewind.NoMemory) result told now before after first put rose kept is =
+    SpentRoom (record { status = Done; bytes = put.text }) (rewound_is old new orders (Err rewind.NoMemory) told now first put) is put.puts (kept (λ e. cc e))
+
+pub rewind_put : {T : Type 0} (old new : Rewinding) (dna : List Base) (orders : List Order) (limit : ℕ) (obeyed : Result T RewindError) (result : Status) (told now : Option (List ℕ)) (before after : ℕ)
+    → old ≡ record { start = dna; limit = limit; attempt = 0; dna = dna; reached = 0 } → AllCommanded old new orders obeyed told now
+    → (obeyed ≡ Err rewind.WriteFault → Rose before after) → (obeyed ≢ Err rewind.WriteFault → after ≡ before)
+    → result ≡ status_rewound obeyed → Wrote (IsRewindOutput dna orders limit) result told now before after
+rewind_put old new dna orders limit obeyed result told now before after made put rose kept is =
+    subst (λ (r : Rewinding). Wrote (IsRewindOutput r.start orders r.limit) result told now before after) made
+    (rewound_put old new orders obeyed result told now before after (ap (λ (r : Rewinding). r.attempt) made) put rose kept is)
 
 -- a traced run was put, whole or in part
 traced_put : (old new : State) (budget : ℕ) (traced : Result RunEnd ListError) (result : Status) (told now : Option (List ℕ)) (before after : ℕ)

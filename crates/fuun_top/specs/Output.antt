@@ -31,6 +31,8 @@ use Rattle.fuun_top.specs.Texts.{letters}
 use Rattle.fuun_words.specs.declared.request.Request.{Request}
 use Rattle.fuun_words.specs.Requests.{request}
 use Rattle.tracer.specs.Lines.{trace_text}
+use Rattle.rewinder.specs.declared.orders.Order.{Order}
+use Rattle.rewinder.specs.Texts.{Writes}
 
 -- a status with the bytes that are written before it
 pub record Output : Type 0 where
@@ -125,12 +127,20 @@ pub record IsAnswer {A : Type 0} (Is : Result A Status → Type 0) (text : A →
   pub is : Is made
   pub tells : output ≡ answered text made
 
+-- the output of a run that a script goes through: what its orders write, from the start on
+pub record IsRewindOutput (dna : List Base) (orders : List Order) (limit : ℕ) (output : Output) : Type 0 where
+  pub last : ℕ
+  pub text : List ℕ
+  pub writes : Writes limit dna orders 0 last text
+  pub is : output ≡ record { status = Done; bytes = text }
+
 -- the output of inputs
 abbrev pub IsOutputOf : Inputs → Output → Type 0
 IsOutputOf (inputs.Run verb dna budget limit) output = IsRunOutput verb dna budget limit output
 IsOutputOf (inputs.Trace dna budget limit) output = IsTraceOutput dna budget limit output
 IsOutputOf (inputs.Plain plain) output = IsBody Done (plain_body plain) output
 IsOutputOf (inputs.Listing dna count) output = IsListingOutput dna count output
+IsOutputOf (inputs.Rewind dna orders limit) output = IsRewindOutput dna orders limit output
 IsOutputOf (inputs.Text verb text) output = IsAnswer (IsMade verb text) letters output
 IsOutputOf (inputs.Bench seed size rounds) output = IsBenchOutput seed size rounds output
 

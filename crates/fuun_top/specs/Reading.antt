@@ -10,12 +10,15 @@ use Rattle.fuun_top.specs.declared.inputs.Plain.TheVariants as plain
 use Rattle.fuun_top.specs.declared.status.InFile.{InFile}
 use Rattle.fuun_top.specs.declared.status.InFile.TheVariants as file
 use Rattle.fuun_top.specs.declared.status.Status.{Status}
-use Rattle.fuun_top.specs.declared.status.Status.TheVariants.{BadBase, BadRna, InputTooLong, StartTooLong}
+use Rattle.fuun_top.specs.declared.status.Status.TheVariants.{BadBase, BadRna, BadScript, InputTooLong, StartTooLong}
 use Rattle.fuun_top.specs.declared.request.Asked.{Asked}
-use Rattle.fuun_top.specs.declared.request.Asked.TheVariants.{Run, Trace, Rna, Listing, Text, Bench}
+use Rattle.fuun_top.specs.declared.request.Asked.TheVariants.{Run, Trace, Rna, Listing, Text, Rewind, Bench}
 use Rattle.fuun_top.specs.declared.request.TextVerb.{TextVerb}
 use Rattle.fuun_top.specs.declared.request.TextVerb.TheVariants as text
 use Rattle.fuun_words.specs.declared.request.RunWords.{RunWords}
+use Rattle.fuun_words.specs.declared.request.RewindWords.{RewindWords}
+use Rattle.rewinder.specs.declared.orders.Order.{Order}
+use Rattle.rewinder.specs.Script.{first_bad as first_bad_order, orders}
 
 -- the contents of files by name, where they are told
 abbrev pub Files : Type 0
@@ -40,6 +43,15 @@ text_file (text.Patch limit) = file.Patch
 text_file text.Assemble = file.Text
 text_file (text.Picture limit) = file.Ppm
 
+-- the name of the prefix file, where there is one, and then these
+abbrev pub with_prefix : Option (List ℕ) → List (List ℕ) → List (List ℕ)
+with_prefix None names = names
+with_prefix (Some name) names = name ∷ names
+
+-- the names of the files of a run that a script goes through
+abbrev pub rewind_files : RewindWords → List (List ℕ)
+rewind_files words = words.dna ∷ with_prefix words.prefix (words.script ∷ [])
+
 -- the names of the files that are read, in order
 abbrev pub files_of : Asked → List (List ℕ)
 files_of (Run verb words) = run_files words
@@ -47,6 +59,7 @@ files_of (Trace words) = run_files words
 files_of (Rna verb name) = name ∷ []
 files_of (Listing name count) = name ∷ []
 files_of (Text verb name) = name ∷ []
+files_of (Rewind words) = rewind_files words
 files_of (Bench seed size rounds) = []
 
 -- what is read: none where contents that it needs are not told, else a value or a refusal
@@ -100,6 +113,24 @@ start_in files words =
     then_read (prefix_in files words.prefix) (λ prefix.
     Some (started words.limit (prefix ++ dna))))
 
+-- the orders of a script
+abbrev pub judged_script : List ℕ → Result (List Order) Status
+judged_script contents = unless_refused (option_map BadScript (first_bad_order contents)) (orders contents)
+
+abbrev pub script_in : Files → List ℕ → Reading (List Order)
+script_in files name = then_read (bytes_in files file.Script name) (λ contents. Some (judged_script contents))
+
+-- the prefix and the script
+abbrev pub guided_in : Files → Option (List ℕ) → List ℕ → Reading (List Base × List Order)
+guided_in files prefix script =
+    then_read (prefix_in files prefix) (λ bases.
+    then_read (script_in files script) (λ orders.
+    Some (Ok (bases, orders))))
+
+-- a start, and the orders for it
+abbrev pub rewound : ℕ → List Base → List Order → Result Inputs Status
+rewound limit dna orders = if nat_lt limit (length dna) then Err StartTooLong else Ok (inputs.Rewind dna orders limit)
+
 -- the inputs of what is asked for
 abbrev pub inputs_of : Files → Asked → Reading Inputs
 inputs_of files (Run verb words) =
@@ -110,6 +141,10 @@ inputs_of files (Rna verb name) =
     then_read (rna_in files name) (λ commands. Some (Ok (inputs.Plain (plain.Rna verb commands))))
 inputs_of files (Listing name count) =
     then_read (dna_in files file.Dna name) (λ dna. Some (Ok (inputs.Listing dna count)))
+inputs_of files (Rewind words) =
+    then_read (dna_in files file.Dna words.dna) (λ dna.
+    then_read (guided_in files words.prefix words.script) (λ guided.
+    Some (rewound words.limit (guided.0 ++ dna) guided.1)))
 inputs_of files (Text verb name) =
     then_read (bytes_in files (text_file verb) name) (λ contents. Some (Ok (inputs.Text verb contents)))
 inputs_of files (Bench seed size rounds) = Some (Ok (inputs.Bench seed size rounds))

@@ -10,7 +10,7 @@ use Rattle.fuun_top.specs.Answer.{told_bytes}
 use Rattle.fuun_top.specs.Reading.{Files, Reading, most_bytes}
 use Rattle.fuun_top.specs.Stages.{stage_of, IsOfInputs}
 use Rattle.fuun_top.specs.declared.request.Asked.{Asked}
-use Rattle.fuun_top.specs.declared.request.Asked.TheVariants.{Run, Trace, Rna, Listing, Text, Bench}
+use Rattle.fuun_top.specs.declared.request.Asked.TheVariants.{Run, Trace, Rna, Listing, Text, Rewind, Bench}
 use Rattle.fuun_top.specs.declared.request.TextVerb.{TextVerb}
 use Rattle.fuun_top.specs.declared.request.TextVerb.TheVariants.{Patch, Assemble, Picture}
 use Rattle.fuun_words.specs.Requests.{IsRunInRange}
@@ -49,6 +49,7 @@ IsInRange (Trace words) = IsRunInRange words
 IsInRange (Rna verb name) = Unit {0}
 IsInRange (Listing name count) = Unit {0}
 IsInRange (Text verb name) = IsTextInRange verb
+IsInRange (Rewind words) = (1 ≤ words.limit) × (words.limit ≤ 2 ^ 40)
 IsInRange (Bench seed size rounds) = IsLoadInRange seed size rounds
 
 -- so are those of what was read, and the DNA is within the limit; what is listed or a text is no longer than a file may be
@@ -57,5 +58,6 @@ AreInRange (inputs.Run verb dna budget limit) = (budget ≤ 2 ^ 40) × (1 ≤ li
 AreInRange (inputs.Trace dna budget limit) = (budget ≤ 2 ^ 40) × (1 ≤ limit) × (limit ≤ 2 ^ 40) × (length dna ≤ limit)
 AreInRange (inputs.Plain plain) = Unit {0}
 AreInRange (inputs.Listing dna count) = length dna ≤ most_bytes
+AreInRange (inputs.Rewind dna orders limit) = (1 ≤ limit) × (limit ≤ 2 ^ 40) × (length dna ≤ limit)
 AreInRange (inputs.Text verb text) = IsTextInRange verb × (length text ≤ most_bytes)
 AreInRange (inputs.Bench seed size rounds) = IsLoadInRange seed size rounds

@@ -5,6 +5,8 @@ use Rattle.fuun_base.specs.Quote.{bits}
 use Rattle.fuun_base.specs.Ticks.{Ticks}
 use Rattle.exec_loop.specs.Run.{Run, IsRun}
 use Rattle.exec_loop.specs.Weights.{WeighTogether}
+use Rattle.rewinder.specs.declared.orders.Order.{Order}
+use Rattle.rewinder.specs.Weights.{ScriptWeighs}
 use Rattle.fuun_top.specs.declared.inputs.Inputs.{Inputs}
 use Rattle.fuun_top.specs.declared.inputs.Inputs.TheVariants as inputs
 use Rattle.fuun_top.specs.Asked.{sorted}
@@ -26,12 +28,18 @@ RunTicks dna budget limit old new =
     (run : Run) (total : ℕ) → IsRun dna budget limit run → WeighTogether (most_height limit) dna run.attempts total
     → Ticks old new (start_steps (length dna) + total)
 
+-- a run that a script goes through makes what its start may, and what the orders weigh together
+abbrev pub RewindTicks : List Base → List Order → ℕ → ℕ → ℕ → Type 0
+RewindTicks dna orders limit old new =
+    (total : ℕ) → ScriptWeighs (most_height limit) limit dna orders 0 0 total → Ticks old new (start_steps (length dna) + total)
+
 -- a run makes its nodes, one on a load too, and a listing those of its DNA; else none is made
 abbrev pub InputsTick : Inputs → ℕ → ℕ → Type 0
 InputsTick (inputs.Run verb dna budget limit) old new = RunTicks dna budget limit old new
 InputsTick (inputs.Trace dna budget limit) old new = RunTicks dna budget limit old new
 InputsTick (inputs.Plain plain) old new = new ≡ old
 InputsTick (inputs.Listing dna count) old new = Ticks old new (start_steps (length dna))
+InputsTick (inputs.Rewind dna orders limit) old new = RewindTicks dna orders limit old new
 InputsTick (inputs.Text verb text) old new = new ≡ old
 InputsTick (inputs.Bench seed size rounds) old new = RunTicks (load_dna seed size rounds) rounds load_limit old new
 

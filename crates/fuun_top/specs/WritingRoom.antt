@@ -14,6 +14,8 @@ use Rattle.fuun_top.specs.Output.{Output, IsPictureOf, status_by}
 use Rattle.fuun_top.specs.Bench.{summary_of}
 use Rattle.workload.specs.declared.summary.Summary.{Summary}
 use Rattle.listing.specs.declared.pairs.ListError.{ListError}
+use Rattle.rewinder.specs.declared.orders.RewindError.{RewindError}
+use Rattle.rewinder.specs.declared.orders.RewindError.TheVariants as rewind
 use Rattle.listing.specs.declared.pairs.ListError.TheVariants as listing
 
 -- an output of this kind was written whole, or cut off after a front of it by a fault or for want of memory, or there was no
@@ -63,3 +65,9 @@ abbrev pub status_listed : {T : Type 0} → Result T ListError → Status
 status_listed (Ok value) = Done
 status_listed (Err listing.WriteFault) = WriteFault
 status_listed (Err listing.NoMemory) = NoMemory
+
+-- the status that the orders of a script leave
+abbrev pub status_rewound : {T : Type 0} → Result T RewindError → Status
+status_rewound (Ok value) = Done
+status_rewound (Err rewind.WriteFault) = WriteFault
+status_rewound (Err rewind.NoMemory) = NoMemory

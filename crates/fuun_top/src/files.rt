@@ -1,13 +1,14 @@
 // Files, read whole and judged.
 ghost use Rattle.std.specs.Prelude.{◌≡◌, ◌≤◌, ◌∷◌, [], length, IfOk, IsTrue};
 ghost use Rattle.fuun_top.specs.Answer.{AreAllowed};
-ghost use Rattle.fuun_top.specs.Reading.{bytes_in, dna_in, judged_dna, judged_rna, most_bytes, prefix_files, prefix_in, rna_in};
+ghost use Rattle.fuun_top.specs.Reading.{bytes_in, dna_in, judged_dna, judged_rna, judged_script, most_bytes, prefix_files, prefix_in, rna_in, script_in};
 ghost use Rattle.fuun_top.specs.ReadingRoom.{Judges, Reads};
 
 use crate::{InFile, Status};
 use fuun_base::{BaseList, CommandList, DnaError, List, RnaError, read_dna, read_rna};
 use fuun_io::{Folder, ReadError, read_all};
 use fuun_words::Name;
+use rewinder::{OrderList, ScriptError, read_script};
 use std::alloc::Global;
 
 /// The most bytes that a file may have.
@@ -111,6 +112,36 @@ pub(crate) fn rna_file<F: Folder>(
 {
     match file_bytes(alloc, folder, name, InFile::Rna) {
         Ok(bytes) => judge_rna(alloc, bytes.as_slice()),
+        Err(status) => Err(status),
+    }
+}
+
+/// The orders of a script.
+fn judge_script(alloc: Global, bytes: &[u8]) -> Result<OrderList, Status>
+    requires { length bytes.now ≤ most_bytes }
+    ensures { Judges (judged_script bytes.now) result }
+{
+    match read_script(alloc, bytes) {
+        Ok(orders) => Ok(orders),
+        Err(ScriptError::BadScript { line }) => Err(Status::BadScript { line }),
+        Err(ScriptError::NoMemory) => Err(Status::NoMemory),
+    }
+}
+
+/// Reads a script.
+pub(crate) fn script_file<F: Folder>(
+    alloc: Global,
+    folder: &mut F,
+    name: &str,
+) -> Result<OrderList, Status>
+    requires { IsTrue (F.allows folder.old name.now) }
+    ensures reads { Reads (F.contents folder.old) (name.now ∷ []) (script_in (F.contents folder.old) name.now)
+        result (F.given folder.old) (F.given folder.new) (F.faults folder.old) (F.faults folder.new) }
+    ensures same_contents { F.contents folder.new ≡ F.contents folder.old }
+    ensures same_names { F.allows folder.new ≡ F.allows folder.old }
+{
+    match file_bytes(alloc, folder, name, InFile::Script) {
+        Ok(bytes) => judge_script(alloc, bytes.as_slice()),
         Err(status) => Err(status),
     }
 }

@@ -1,16 +1,17 @@
 // The reading room: from a request to its inputs.
-ghost use Rattle.std.specs.Prelude.{◌≡◌, ◌≤◌, ◌++◌, length, IfOk};
+ghost use Rattle.std.specs.Prelude.{◌≡◌, ◌^◌, ◌≤◌, ◌∷◌, [], ◌++◌, length, IfOk, Some};
 ghost use Rattle.fuun_top.specs.Answer.{AreAllowed};
-ghost use Rattle.fuun_top.specs.declared.request.Asked.TheVariants.{Run, Trace, Rna, Listing, Text};
-ghost use Rattle.fuun_top.specs.Reading.{files_of, inputs_of, run_files, start_in, started};
+ghost use Rattle.fuun_top.specs.declared.request.Asked.TheVariants.{Run, Trace, Rna, Listing, Text, Rewind};
+ghost use Rattle.fuun_top.specs.Reading.{files_of, guided_in, inputs_of, rewound, run_files, start_in, started, with_prefix};
 ghost use Rattle.fuun_top.specs.ReadingRoom.{AreInRange, IsInRange, Judges, Reads};
 
-use crate::files::{dna_file, file_bytes, prefix_file, rna_file};
+use crate::files::{dna_file, file_bytes, prefix_file, rna_file, script_file};
 use crate::request::{Asked, RnaVerb, RunVerb, TextVerb};
 use crate::{InFile, Status};
 use fuun_base::{BaseList, CommandList, List, NoMemory};
 use fuun_io::Folder;
-use fuun_words::RunWords;
+use fuun_words::{Name, RewindWords, RunWords};
+use rewinder::OrderList;
 use std::alloc::Global;
 
 /// What a request works on.
@@ -34,6 +35,12 @@ pub(crate) enum Inputs {
     Listing {
         dna: BaseList,
         count: u64,
+    },
+    /// A run that a script goes through: the DNA that it starts from, the orders, and the greatest length in bases.
+    Rewind {
+        dna: BaseList,
+        orders: OrderList,
+        limit: u64,
     },
     /// The bytes of a text that DNA is made of.
     Text {
@@ -72,6 +79,7 @@ pub(crate) fn read_inputs<F: Folder>(
         Asked::Trace(words) => read_traced(alloc, folder, words),
         Asked::Rna(verb, name) => read_commands(alloc, folder, *verb, name.as_str()),
         Asked::Listing(name, count) => read_listed(alloc, folder, name.as_str(), *count),
+        Asked::Rewind(words) => read_rewound(alloc, folder, words),
         Asked::Text(verb, name) => read_text(alloc, folder, *verb, name.as_str()),
         Asked::Bench { seed, size, rounds } => Ok(Inputs::Bench {
             seed: *seed,
@@ -225,6 +233,91 @@ fn read_text<F: Folder>(
 {
     match file_bytes(alloc, folder, name, verb.file()) {
         Ok(text) => Ok(Inputs::Text { verb, text }),
+        Err(status) => Err(status),
+    }
+}
+
+/// Reads the files of a run that a script goes through, and joins prefix and DNA.
+fn read_rewound<F: Folder>(
+    alloc: Global,
+    folder: &mut F,
+    words: &RewindWords,
+) -> Result<Inputs, Status>
+    requires allowed { AreAllowed (F.allows folder.old) (files_of (Rewind words.now)) }
+    requires in_range { IsInRange (Rewind words.now) }
+    ensures reads { Reads (F.contents folder.old) (files_of (Rewind words.now))
+        (inputs_of (F.contents folder.old) (Rewind words.now))
+        result (F.given folder.old) (F.given folder.new) (F.faults folder.old) (F.faults folder.new) }
+    ensures in_range { IfOk result AreInRange }
+{
+    let bases = match dna_file(alloc, folder, words.dna.as_str(), InFile::Dna) {
+        Ok(bases) => bases,
+        Err(status) => return Err(status),
+    };
+    match read_guided(alloc, folder, &words.prefix, words.script.as_str()) {
+        Ok((prefix, orders)) => rewound(alloc, prefix, bases, orders, words.limit),
+        Err(status) => Err(status),
+    }
+}
+
+/// Reads the prefix file, where there is one, and then the script.
+fn read_guided<F: Folder>(
+    alloc: Global,
+    folder: &mut F,
+    prefix: &Option<Name>,
+    script: &str,
+) -> Result<(BaseList, OrderList), Status>
+    requires { AreAllowed (F.allows folder.old) (with_prefix prefix.now (script.now ∷ [])) }
+    ensures reads { Reads (F.contents folder.old) (with_prefix prefix.now (script.now ∷ []))
+        (guided_in (F.contents folder.old) prefix.now script.now)
+        result (F.given folder.old) (F.given folder.new) (F.faults folder.old) (F.faults folder.new) }
+{
+    match prefix {
+        Some(name) => read_prefixed(alloc, folder, name.as_str(), script),
+        None => match script_file(alloc, folder, script) {
+            Ok(orders) => Ok((BaseList::new(alloc), orders)),
+            Err(status) => Err(status),
+        },
+    }
+}
+
+/// Reads a prefix file and then the script.
+fn read_prefixed<F: Folder>(
+    alloc: Global,
+    folder: &mut F,
+    prefix: &str,
+    script: &str,
+) -> Result<(BaseList, OrderList), Status>
+    requires { AreAllowed (F.allows folder.old) (prefix.now ∷ script.now ∷ []) }
+    ensures reads { Reads (F.contents folder.old) (prefix.now ∷ script.now ∷ [])
+        (guided_in (F.contents folder.old) (Some prefix.now) script.now)
+        result (F.given folder.old) (F.given folder.new) (F.faults folder.old) (F.faults folder.new) }
+{
+    let prefix = match dna_file(alloc, folder, prefix, InFile::Prefix) {
+        Ok(prefix) => prefix,
+        Err(status) => return Err(status),
+    };
+    match script_file(alloc, folder, script) {
+        Ok(orders) => Ok((prefix, orders)),
+        Err(status) => Err(status),
+    }
+}
+
+/// Joins prefix and DNA, for orders.
+fn rewound(
+    alloc: Global,
+    prefix: BaseList,
+    dna: BaseList,
+    orders: OrderList,
+    limit: u64,
+) -> Result<Inputs, Status>
+    requires some { 1 ≤ limit }
+    requires most { limit ≤ 2 ^ 40 }
+    ensures judges { Judges (rewound limit (prefix ++ dna) orders) result }
+    ensures in_range { IfOk result AreInRange }
+{
+    match start(alloc, prefix, dna, limit) {
+        Ok(dna) => Ok(Inputs::Rewind { dna, orders, limit }),
         Err(status) => Err(status),
     }
 }

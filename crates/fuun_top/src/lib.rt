@@ -11,6 +11,7 @@ mod making;
 mod output;
 mod pictures;
 mod request;
+mod rewound;
 mod running;
 mod status;
 #[cfg(test)]

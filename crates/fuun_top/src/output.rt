@@ -14,6 +14,7 @@ use crate::listed::put_listing;
 use crate::making::put_text;
 use crate::pictures::put_drawing;
 use crate::request::{RnaVerb, RunVerb};
+use crate::rewound::put_rewound;
 use crate::running::{machine_on, put_made};
 use crate::traced::put_trace;
 use fuun_base::{BaseList, NoMemory, Steps};
@@ -44,6 +45,9 @@ pub(crate) fn put_output<S: Sink, L: Ledger>(
         Inputs::Trace { dna, budget, limit } => put_trace(alloc, dna, budget, limit, out, steps),
         Inputs::Plain(plain) => put_plain(alloc, &plain, out),
         Inputs::Listing { dna, count } => put_listing(alloc, dna, count, out, steps),
+        Inputs::Rewind { dna, orders, limit } => put_rewound(
+            alloc, dna, &orders, limit, out, steps,
+        ),
         Inputs::Text { verb, text } => put_text(alloc, verb, &text, out),
         Inputs::Bench { seed, size, rounds } => put_bench(alloc, seed, size, rounds, out, steps),
     }

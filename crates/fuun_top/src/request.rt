@@ -5,7 +5,7 @@ ghost use Rattle.fuun_top.specs.ReadingRoom.{IsInRange};
 ghost use Rattle.fuun_words.specs.Requests.{IsInRange as IsRequestInRange};
 
 use crate::InFile;
-use fuun_words::{Name, Request, RunWords};
+use fuun_words::{Name, Request, RewindWords, RunWords};
 use rna_code::Profile;
 
 /// What is written of a run.
@@ -65,6 +65,8 @@ pub(crate) enum Asked {
     Listing(Name, u64),
     /// The DNA that is made of a text, by its file's name.
     Text(TextVerb, Name),
+    /// A run that a script goes through, forward and back.
+    Rewind(RewindWords),
     /// A run on a load that is drawn from a seed.
     Bench { seed: u64, size: u64, rounds: u64 },
 }
@@ -87,5 +89,6 @@ pub(crate) fn sorted(request: Request) -> Asked
         Request::Bench { seed, size, rounds } => Asked::Bench { seed, size, rounds },
         Request::Assemble { text } => Asked::Text(TextVerb::Assemble, text),
         Request::Picture { ppm, limit } => Asked::Text(TextVerb::Picture { limit }, ppm),
+        Request::Rewind(words) => Asked::Rewind(words),
     }
 }

@@ -14,6 +14,7 @@ pub enum InFile {
     Rna,
     Patch,
     Text,
+    Script,
     Ppm,
 }
 
@@ -52,6 +53,8 @@ pub enum Status {
     BadText { line: u64 },
     /// This line of the text, counted from 1, has a pattern that no DNA is read as.
     Unreadable { line: u64 },
+    /// This line of the script, counted from 1, is no order.
+    BadScript { line: u64 },
     /// The file does not begin as a picture of 600 by 600 pixels.
     BadPpm,
 }
@@ -66,6 +69,7 @@ impl InFile {
             InFile::Rna => "rna",
             InFile::Patch => "patch",
             InFile::Text => "text",
+            InFile::Script => "script",
             InFile::Ppm => "ppm",
         }
     }
@@ -93,6 +97,7 @@ impl Status {
             Status::StartTooLong => 14,
             Status::BadText { .. } => 15,
             Status::Unreadable { .. } => 16,
+            Status::BadScript { .. } => 18,
             Status::BadPpm => 19,
         }
     }
@@ -109,9 +114,7 @@ pub fn put_status<S: Sink>(status: &Status, sink: &mut S) -> Result<(), WriteFau
         Status::OutOfBudget => put_pieces(sink, &[b"fuun: out of budget\n"]),
         Status::TooLong { attempt } => put_too_long(sink, attempt),
         Status::BadBase { file, place } => put_bad_base(sink, file, place),
-        Status::BadRna { line } => {
-            put_numbered(sink, b"rna: line ", line, b" is not a command")
-        }
+        Status::BadRna { line } => { put_numbered(sink, b"rna: line ", line, b" is not a command") }
         Status::BadToml => put_pieces(sink, &[b"fuun: ", b"patch: not a TOML document", b"\n"]),
         Status::BadPatch { index } => put_numbered(sink, b"patch: row ", index, b" is refused"),
         Status::Outside { index } => {
@@ -127,6 +130,7 @@ pub fn put_status<S: Sink>(status: &Status, sink: &mut S) -> Result<(), WriteFau
         Status::StartTooLong => put_pieces(sink, &[b"fuun: start too long\n"]),
         Status::BadText { line } => put_numbered(sink, b"text: line ", line, b" is not a pair"),
         Status::Unreadable { line } => put_numbered(sink, b"text: line ", line, b" has no DNA"),
+        Status::BadScript { line } => put_numbered(sink, b"script: line ", line, b" is refused"),
         Status::BadPpm => put_pieces(sink, &[b"fuun: ppm: refused\n"]),
     }
 }

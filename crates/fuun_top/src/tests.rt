@@ -586,6 +586,22 @@ fn statuses_have_their_lines(rt: HostRuntime) -> Result<(), Fail> {
             14,
             b"fuun: start too long\n".as_slice(),
         ),
+        (
+            Status::BadText { line: 1 },
+            15,
+            b"fuun: text: line 1 is not a pair\n".as_slice(),
+        ),
+        (
+            Status::Unreadable { line: 30 },
+            16,
+            b"fuun: text: line 30 has no DNA\n".as_slice(),
+        ),
+        (
+            Status::BadScript { line: 2 },
+            18,
+            b"fuun: script: line 2 is refused\n".as_slice(),
+        ),
+        (Status::BadPpm, 19, b"fuun: ppm: refused\n".as_slice()),
     ] {
         let mut sink = MemSink::with_room(rt.alloc(), 64)?;
         put_status(&status, &mut sink)?;

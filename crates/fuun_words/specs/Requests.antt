@@ -8,10 +8,11 @@ use Rattle.rna_code.specs.declared.profile.Profile.{Profile}
 use Rattle.fuun_words.specs.declared.request.Request.{Request}
 use Rattle.fuun_words.specs.declared.request.Request.TheVariants as asked
 use Rattle.fuun_words.specs.declared.request.RunWords.{RunWords}
+use Rattle.fuun_words.specs.declared.request.RewindWords.{RewindWords}
 use Rattle.fuun_words.specs.declared.request.WordsError.{WordsError}
 use Rattle.fuun_words.specs.declared.request.WordsError.TheVariants.{Usage}
 use Rattle.fuun_words.specs.declared.verb.Verb.{Verb}
-use Rattle.fuun_words.specs.declared.verb.Verb.TheVariants.{Rna, Image, Trace, Dna, Draw, Names, List as Pairs, Patch, Bench, Assemble, Picture}
+use Rattle.fuun_words.specs.declared.verb.Verb.TheVariants.{Rna, Image, Trace, Dna, Draw, Names, List as Pairs, Patch, Bench, Assemble, Picture, Rewind}
 
 -- the texts of words
 abbrev pub texts : {Z : Type 0} → List (String Z) → List (List ℕ)
@@ -42,7 +43,7 @@ abbrev pub run_of : List Row → Option RunWords
 run_of rows =
     run (first_of (codes "dna") rows) (first_of (codes "prefix") rows) (budget_of rows) (limit_of rows)
 
--- what the words of a load ask for, where each of them is there
+-- what the words of a load and of a rewound run ask for, where each of them is there
 abbrev pub bench : Option ℕ → Option ℕ → Option ℕ → Option Request
 bench (Some seed) (Some size) (Some rounds) = Some (asked.Bench seed size rounds)
 bench _ _ _ = None
@@ -50,6 +51,15 @@ bench _ _ _ = None
 abbrev pub bench_of : List Row → Option Request
 bench_of rows =
     bench (number_of (codes "seed") (2 ^ 31 - 1) rows) (number_of (codes "size") (2 ^ 24) rows) (number_of (codes "rounds") (2 ^ 16) rows)
+
+abbrev pub rewound : Option Text → Option Text → Option Text → Option ℕ → Option RewindWords
+rewound (Some dna) prefix (Some script) (Some limit) =
+    Some (record { dna = dna; prefix = prefix; script = script; limit = limit })
+rewound _ _ _ _ = None
+
+abbrev pub rewound_of : List Row → Option RewindWords
+rewound_of rows =
+    rewound (first_of (codes "dna") rows) (first_of (codes "prefix") rows) (first_of (codes "script") rows) (limit_of rows)
 
 -- what two values make, where both are there
 abbrev pub both : {A B C : Type 0} → (A → B → C) → Option A → Option B → Option C
@@ -69,6 +79,7 @@ request_of Patch rows = both asked.Patch (first_of (codes "file") rows) (limit_o
 request_of Bench rows = bench_of rows
 request_of Assemble rows = option_map asked.Assemble (first_of (codes "text") rows)
 request_of Picture rows = both asked.Picture (first_of (codes "ppm") rows) (limit_of rows)
+request_of Rewind rows = option_map asked.Rewind (rewound_of rows)
 
 -- what words ask for: nothing where they are in no form that a verb has
 abbrev pub request : List Text → Option Request
@@ -99,3 +110,4 @@ IsInRange (asked.Patch file limit) = (1 ≤ limit) × (limit ≤ 2 ^ 40)
 IsInRange (asked.Bench seed size rounds) = (seed < 2 ^ 31) × (size ≤ 2 ^ 24) × (rounds ≤ 2 ^ 16)
 IsInRange (asked.Assemble text) = Unit {0}
 IsInRange (asked.Picture ppm limit) = (1 ≤ limit) × (limit ≤ 2 ^ 40)
+IsInRange (asked.Rewind words) = (1 ≤ words.limit) × (words.limit ≤ 2 ^ 40)

@@ -45,6 +45,18 @@ pub enum Request {
     Assemble { text: Name },
     /// A DNA of at most `limit` bases that draws a picture: from 1 to 2^40.
     Picture { ppm: Name, limit: u64 },
+    /// What a script shows of a run, forward and back.
+    Rewind(RewindWords),
+}
+
+/// The words of `rewind`.
+#[derive(Debug, Drop)]
+pub struct RewindWords {
+    pub dna: Name,
+    pub prefix: Option<Name>,
+    pub script: Name,
+    /// The most bases that a DNA may have: from 1 to 2^40.
+    pub limit: u64,
 }
 
 /// Why words give no request.

@@ -67,6 +67,10 @@ fn words_ask(rt: HostRuntime) -> Result<(), Fail> {
             r#"Picture { ppm: Name { text: "p" }, limit: 67108864 }"#,
         ),
         (
+            "rewind --script s --dna a",
+            r#"Rewind(RewindWords { dna: Name { text: "a" }, prefix: None, script: Name { text: "s" }, limit: 67108864 })"#,
+        ),
+        (
             "trace --dna a --budget=1",
             r#"Trace(RunWords { dna: Name { text: "a" }, prefix: None, budget: 1, limit: 67108864 })"#,
         ),
@@ -124,6 +128,8 @@ fn other_words_are_refused(rt: HostRuntime) -> Result<(), Fail> {
         "assemble --text t --limit 1",
         "picture --limit 1",
         "picture --ppm p --limit 0",
+        "rewind --dna a",
+        "rewind --dna a --script s --budget 1",
     ] {
         assert!(rt;
             matches!(asked(alloc, line)?, Err(WordsError::Usage)),

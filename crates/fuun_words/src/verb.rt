@@ -17,6 +17,7 @@ pub(crate) enum Verb {
     Bench,
     Assemble,
     Picture,
+    Rewind,
 }
 
 /// Whether a verb asks for an option.
@@ -60,6 +61,13 @@ static ASSEMBLE: [VerbOption; 1] = [("text", Need::Required)];
 
 static PICTURE: [VerbOption; 2] = [("ppm", Need::Required), ("limit", Need::Optional)];
 
+static REWIND: [VerbOption; 4] = [
+    ("dna", Need::Required),
+    ("prefix", Need::Optional),
+    ("script", Need::Required),
+    ("limit", Need::Optional),
+];
+
 impl Verb {
     /// The verb of this name.
     pub(crate) fn of(word: &str) -> Option<Verb>
@@ -77,6 +85,7 @@ impl Verb {
             "bench" => Some(Verb::Bench),
             "assemble" => Some(Verb::Assemble),
             "picture" => Some(Verb::Picture),
+            "rewind" => Some(Verb::Rewind),
             _ => None,
         }
     }
@@ -94,6 +103,7 @@ impl Verb {
             Verb::Bench => BENCH.as_slice(),
             Verb::Assemble => ASSEMBLE.as_slice(),
             Verb::Picture => PICTURE.as_slice(),
+            Verb::Rewind => REWIND.as_slice(),
         }
     }
 }

@@ -29,3 +29,9 @@ returns-in-Bench-clause-wrote g c = rw c.in-Bench.is c.put_bench.ensures.wrote
 
 pub returns-in-Bench-clause-ticks : goal.returns-in-Bench-clause-ticks
 returns-in-Bench-clause-ticks g c = rw c.in-Bench.is c.put_bench.ensures.ticks
+
+pub returns-in-Rewind-clause-wrote : goal.returns-in-Rewind-clause-wrote
+returns-in-Rewind-clause-wrote g c = rw c.in-Rewind.is c.put_rewound.ensures.wrote
+
+pub returns-in-Rewind-clause-ticks : goal.returns-in-Rewind-clause-ticks
+returns-in-Rewind-clause-ticks g c = rw c.in-Rewind.is c.put_rewound.ensures.ticks
