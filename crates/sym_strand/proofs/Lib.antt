@@ -2,3 +2,4 @@ pub mod Places
 pub mod RunLemmas
 pub mod Tidy
 pub mod CellLemmas
+pub mod SegmentLaws

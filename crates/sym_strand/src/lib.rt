@@ -5,6 +5,7 @@ mod cells;
 mod cutting;
 mod dna;
 mod joining;
+pub mod laws;
 mod segments;
 
 pub use cells::Cell;
