@@ -12,3 +12,6 @@ pub mod ByAttempts
 pub mod ByParts
 pub mod OneAttempt
 pub mod OneRun
+pub mod CellWays
+pub mod CellRuns
+pub mod Explanations

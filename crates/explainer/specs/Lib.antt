@@ -8,3 +8,4 @@ pub mod Laws
 pub mod Passing
 pub mod Making
 pub mod Lines
+pub mod Answers

@@ -1,6 +1,7 @@
 //! What holds of the definitions. Each call does nothing: its clause is the law.
 ghost use Rattle.dna_reader.specs.Tables.{pattern_table, template_table};
 ghost use Rattle.explainer.specs.Laws.{ReadsLonger, LeadsAreNoFailures, LeadsDoNotDepend, FailuresDoNotDepend, HasOneAttempt, AttemptsDoNotDepend, HasOneRun, AttemptIsFilled, RunIsFilled};
+ghost use Rattle.explainer.specs.Answers.{HasAttemptOrDepends, HasRun, HasExplanation, ExplanationIsOne};
 
 /// A reading that comes to its end is that of each longer DNA.
 pub fn longer_readings()
@@ -34,4 +35,16 @@ pub fn attempt_for_every_target()
 /// A run on cells that does not depend on the target is the machine's run for every target of that length.
 pub fn run_for_every_target()
     ensures { RunIsFilled }
+{}
+
+/// Cells have an attempt, or it depends on the target; so they have a run for each budget and limit.
+pub fn run_on_cells()
+    ensures attempt { HasAttemptOrDepends }
+    ensures run { HasRun }
+{}
+
+/// There is one answer for each prefix, length of the target, budget and limit.
+pub fn one_explanation()
+    ensures made { HasExplanation }
+    ensures once { ExplanationIsOne }
 {}
