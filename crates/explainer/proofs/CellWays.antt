@@ -63,7 +63,7 @@ window_at s z place within =
 
 -- items
 
-pub data Way (z : List Cell) (item : PatItem) (i : ℕ) : Type 0 where
+data Way (z : List Cell) (item : PatItem) (i : ℕ) : Type 0 where
   Leading : (j : ℕ) → Leads z item i j → Way z item i
   Failing : Fails z item i → Way z item i
   Depending : Depends z item i → Way z item i
@@ -95,7 +95,7 @@ literal_way z b i (Known seen) there =
     ]
 literal_way z b i (Target place) there = Depending (place, there)
 
-pub way_of : (z : List Cell) (item : PatItem) (i : ℕ) → Way z item i
+way_of : (z : List Cell) (item : PatItem) (i : ℕ) → Way z item i
 way_of z (Literal b) i =
     elim (cases_lt i (length z)) [
       | inl inside ↦ let cell = item_at z i inside in literal_way z b i cell.0 cell.1

@@ -1,5 +1,5 @@
 -- There is one answer for each prefix, target, budget and limit.
-use Rattle.std.proofs.Common.{◌≡◌, ℕ, ◌+◌, Bool, true, false, Result, Ok, Err, List, [], ◌∷◌, length, arith, refl, sym, ap, subst, ◌∙◌}
+use Rattle.std.proofs.Common.{◌≡◌, ◌≢◌, ℕ, ◌+◌, Bool, true, false, Result, Ok, Err, IfOk, List, [], ◌∷◌, length, arith, refl, sym, ap, subst, ◌∙◌}
 use Rattle.std.proofs.lemmas.List.{length-append}
 use Rattle.fuun_base.specs.declared.letters.Base.{Base}
 use Rattle.sym_strand.specs.declared.segments.Seg.{Seg}
@@ -69,11 +69,11 @@ told_not_long : (a : Bool) (m n : ℕ) → end_of a m ≡ TooLong n → ⊥
 told_not_long true m n e = cc
 told_not_long false m n e = cc
 
-told_not_depending : (a : Bool) (m n : ℕ) → end_of a m ≡ Depends n → ⊥
+pub told_not_depending : (a : Bool) (m n : ℕ) → end_of a m ≡ Depends n → ⊥
 told_not_depending true m n e = cc
 told_not_depending false m n e = cc
 
-long_not_depending : (m n : ℕ) → TooLong m ≡ Depends n → ⊥
+pub long_not_depending : (m n : ℕ) → TooLong m ≡ Depends n → ⊥
 long_not_depending m n e = cc
 
 same_found : (a b : Explained) → a.finished ≡ b.finished → a.attempts ≡ b.attempts → a.rna ≡ b.rna → a.segs ≡ b.segs → a ≡ b
@@ -125,3 +125,14 @@ explanation_is_one prefix target budget limit (Err (error.TooLong m)) (Err (erro
     ap (λ k. Err (error.TooLong k)) (ap number_of (same_ends prefix target budget limit (TooLong m) (TooLong n) x y))
 explanation_is_one prefix target budget limit (Err (error.TooLong m)) (Err error.NoMemory) x y = absurd y
 explanation_is_one prefix target budget limit (Err error.NoMemory) b x y = absurd x
+
+-- what is answered where there was memory
+
+pub is_explained : (prefix : List Base) (target budget limit : ℕ) (answer : Result Explained ExplainError) → IfOk answer (Explains prefix target budget limit)
+    → ((attempt : ℕ) → answer ≡ Err (error.Depends attempt) → EndsSo prefix target budget limit (Depends attempt))
+    → ((attempt : ℕ) → answer ≡ Err (error.TooLong attempt) → EndsSo prefix target budget limit (TooLong attempt))
+    → answer ≢ Err error.NoMemory → IsExplained prefix target budget limit answer
+is_explained prefix target budget limit (Ok found) explains depends long memory = explains
+is_explained prefix target budget limit (Err (error.Depends attempt)) explains depends long memory = depends attempt refl
+is_explained prefix target budget limit (Err (error.TooLong attempt)) explains depends long memory = long attempt refl
+is_explained prefix target budget limit (Err error.NoMemory) explains depends long memory = memory refl

@@ -58,7 +58,7 @@ front_of_some_target (Target place ∷ z) known = omega arith
 
 -- the start
 
-fill_places : (d : List Base) (lo n : ℕ) → lo + n ≤ length d → fill d (places_from lo n) ≡ take n (drop lo d)
+pub fill_places : (d : List Base) (lo n : ℕ) → lo + n ≤ length d → fill d (places_from lo n) ≡ take n (drop lo d)
 unfolding places_from
 fill_places d lo zero within = refl
 fill_places d lo (suc n) within =

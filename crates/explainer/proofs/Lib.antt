@@ -15,3 +15,5 @@ pub mod OneRun
 pub mod CellWays
 pub mod CellRuns
 pub mod Explanations
+pub mod RangesWithin
+pub mod EveryTarget

@@ -1,7 +1,7 @@
 //! What holds of the definitions. Each call does nothing: its clause is the law.
 ghost use Rattle.dna_reader.specs.Tables.{pattern_table, template_table};
 ghost use Rattle.explainer.specs.Laws.{ReadsLonger, LeadsAreNoFailures, LeadsDoNotDepend, FailuresDoNotDepend, HasOneAttempt, AttemptsDoNotDepend, HasOneRun, AttemptIsFilled, RunIsFilled};
-ghost use Rattle.explainer.specs.Answers.{HasAttemptOrDepends, HasRun, HasExplanation, ExplanationIsOne};
+ghost use Rattle.explainer.specs.Answers.{HasAttemptOrDepends, HasRun, HasExplanation, ExplanationIsOne, FoundForEveryTarget, TooLongForEveryTarget};
 
 /// A reading that comes to its end is that of each longer DNA.
 pub fn longer_readings()
@@ -47,4 +47,10 @@ pub fn run_on_cells()
 pub fn one_explanation()
     ensures made { HasExplanation }
     ensures once { ExplanationIsOne }
+{}
+
+/// The answer holds of the machine for every target of that length. The segments give its last DNA.
+pub fn explanation_for_every_target()
+    ensures found { FoundForEveryTarget }
+    ensures too_long { TooLongForEveryTarget }
 {}
