@@ -27,19 +27,22 @@ use Rattle.fuun_top.specs.declared.status.InFile.TheVariants as file
 use Rattle.fuun_top.specs.declared.status.Status.{Status}
 use Rattle.fuun_top.specs.declared.status.Status.TheVariants.{Done, Usage}
 use Rattle.fuun_top.specs.Output.{Output, Body, Text, Drawing, IsBody, IsRunOutput, IsTraceOutput, IsListingOutput, IsRewindOutput, IsBenchOutput, IsAnswer, IsOutputOf, answered, OutputBy, OutputOf, plain_body, run_body, spent_is_done, status_by, refusal, picture_side, most_layers}
-use Rattle.fuun_top.specs.Making.{IsMade, assemble_refusal, drawn, patch_prefix, told}
+use Rattle.fuun_top.specs.Making.{IsExplanation, IsMade, assemble_refusal, drawn, explain_refusal, patch_prefix, told}
 use Rattle.fuun_top.specs.Bench.{load_dna, load_limit, summary_of}
 use Rattle.fuun_top.specs.OutputLaws.{IsTold, AreTold, HasOutput, HasOneOutput}
 use Rattle.fuun_top.specs.Reading.{Files, Reading, then_read, within, bytes_in, dna_in, judged_dna, prefix_in, prefix_files, files_of, rna_in, judged_rna, start_in, text_file, script_in, judged_script, guided_in, with_prefix, inputs_of}
 use Rattle.fuun_top.specs.Asked.{sorted}
 use Rattle.fuun_top.specs.declared.request.Asked.{Asked}
-use Rattle.fuun_top.specs.declared.request.Asked.TheVariants.{Run as asked_run, Trace as asked_trace, Rna as asked_rna, Listing as asked_listing, Text as asked_text, Rewind as asked_rewind, Bench as asked_bench}
+use Rattle.fuun_top.specs.declared.request.Asked.TheVariants.{Run as asked_run, Trace as asked_trace, Rna as asked_rna, Listing as asked_listing, Text as asked_text, Explain as asked_explain, Rewind as asked_rewind, Bench as asked_bench}
 use Rattle.fuun_words.specs.declared.request.Request.{Request}
 use Rattle.fuun_words.specs.declared.request.RunWords.{RunWords}
 use Rattle.fuun_words.specs.Requests.{request}
 use Rattle.fuun_top.specs.Texts.{letters}
 use Rattle.tracer.specs.Lines.{trace_text}
 use Rattle.rewinder.specs.declared.orders.Order.{Order}
+use Rattle.explainer.specs.declared.explained.Explained.{Explained}
+use Rattle.explainer.specs.Lines.{explained_text}
+use Rattle.explainer.proofs.Explanations.{has_explanation, explanation_is_one}
 use Rattle.rewinder.proofs.TextLemmas.{has_text, one_text}
 use Rattle.workload.specs.Summary.{summary_text}
 
@@ -136,11 +139,21 @@ made_one (texts.Patch limit) text a b p q = p ∙ sym q
 made_one texts.Assemble text a b p q = p.tells ∙ ap (told assemble_refusal) (answer_is_one (lines text) p.answer q.answer p.is q.is) ∙ sym q.tells
 made_one (texts.Picture limit) text a b p q = p ∙ sym q
 
+explanation_has : (prefix : List Base) (len attempts limit : ℕ) → (made : Result Explained Status) × IsExplanation prefix len attempts limit made
+explanation_has prefix len attempts limit =
+    let answer = has_explanation prefix len attempts limit in
+    (told explain_refusal answer.0, record { answer = answer.0; is = answer.1; tells = refl })
+
+explanation_one : (prefix : List Base) (len attempts limit : ℕ) (a b : Result Explained Status) → IsExplanation prefix len attempts limit a → IsExplanation prefix len attempts limit b → a ≡ b
+explanation_one prefix len attempts limit a b p q =
+    p.tells ∙ ap (told explain_refusal) (explanation_is_one prefix len attempts limit p.answer q.answer p.is q.is) ∙ sym q.tells
+
 output_has : (inputs : Inputs) → Has (IsOutputOf inputs)
 output_has (inputs.Run verb dna budget limit) = run_has verb dna budget limit
 output_has (inputs.Trace dna budget limit) = trace_has dna budget limit
 output_has (inputs.Plain plain) = body_has Done (plain_body plain)
 output_has (inputs.Listing dna count) = listing_has dna count
+output_has (inputs.Explain prefix len attempts limit) = answer_has (IsExplanation prefix len attempts limit) explained_text (explanation_has prefix len attempts limit)
 output_has (inputs.Rewind dna orders limit) = rewind_has dna orders limit
 output_has (inputs.Text verb text) = answer_has (IsMade verb text) letters (made_has verb text)
 output_has (inputs.Bench seed size rounds) = bench_has seed size rounds
@@ -150,6 +163,7 @@ output_one (inputs.Run verb dna budget limit) = run_one verb dna budget limit
 output_one (inputs.Trace dna budget limit) = trace_one dna budget limit
 output_one (inputs.Plain plain) = body_one Done (plain_body plain)
 output_one (inputs.Listing dna count) = listing_one dna count
+output_one (inputs.Explain prefix len attempts limit) = answer_one (IsExplanation prefix len attempts limit) explained_text (explanation_one prefix len attempts limit)
 output_one (inputs.Rewind dna orders limit) = rewind_one dna orders limit
 output_one (inputs.Text verb text) = answer_one (IsMade verb text) letters (made_one verb text)
 output_one (inputs.Bench seed size rounds) = bench_one seed size rounds
@@ -203,6 +217,7 @@ inputs_known files (asked_trace words) told =
     then_known (start_in files words) (λ dna. Some (Ok (inputs.Trace dna words.budget words.limit))) (start_known files words told) (λ dna. (_, refl))
 inputs_known files (asked_rna verb name) told = then_known (rna_in files name) _ (rna_known files name told.0) (λ commands. (_, refl))
 inputs_known files (asked_listing name count) told = then_known (dna_in files file.Dna name) _ (dna_known files file.Dna name told.0) (λ dna. (_, refl))
+inputs_known files (asked_explain words) told = then_known (dna_in files file.Prefix words.prefix) _ (dna_known files file.Prefix words.prefix told.0) (λ prefix. (_, refl))
 inputs_known files (asked_rewind words) told =
     then_known (dna_in files file.Dna words.dna) _ (dna_known files file.Dna words.dna told.0) (λ dna.
     then_known (guided_in files words.prefix words.script) _ (guided_known files words.prefix words.script told.1) (λ guided. (_, refl)))

@@ -14,13 +14,17 @@ use Rattle.assembler.specs.declared.assembling.AsmError.{AsmError}
 use Rattle.assembler.specs.declared.assembling.AsmError.TheVariants as assemble
 use Rattle.picture_in.specs.Pixmap.{Rgb, picture_of}
 use Rattle.draw_compile.specs.Drawing.{drawing}
+use Rattle.explainer.specs.declared.explained.Explained.{Explained}
+use Rattle.explainer.specs.declared.explained.ExplainError.{ExplainError}
+use Rattle.explainer.specs.declared.explained.ExplainError.TheVariants as explain
+use Rattle.explainer.specs.Lines.{explained_text}
 use Rattle.fuun_top.specs.declared.inputs.Inputs.{Inputs}
 use Rattle.fuun_top.specs.declared.inputs.Inputs.TheVariants as inputs
 use Rattle.fuun_top.specs.declared.request.TextVerb.{TextVerb}
 use Rattle.fuun_top.specs.declared.request.TextVerb.TheVariants as texts
 use Rattle.fuun_top.specs.declared.status.Status.{Status}
 use Rattle.fuun_top.specs.declared.status.Status.TheVariants.{Done, TooLong}
-use Rattle.fuun_top.specs.Making.{IsMade, assemble_refusal, compile_refusal, drawn, patch_refusal, told, then_made}
+use Rattle.fuun_top.specs.Making.{IsExplanation, IsMade, assemble_refusal, compile_refusal, drawn, explain_refusal, patch_refusal, told, then_made}
 use Rattle.fuun_top.specs.Output.{Output, Body, Text, Drawing, IsBody, IsOutputOf, answered, plain_body, run_body, spent_is_done, status_by}
 use Rattle.fuun_top.specs.Stages.{ByOutput, IsOfOutput, stage_of}
 use Rattle.fuun_top.specs.Texts.{letters}
@@ -82,6 +86,14 @@ made_refused (texts.Patch limit) text made is =
 made_refused texts.Assemble text made is = subst IsRefused (sym is.tells) (told_refused assemble_refusal is.answer assemble_refused)
 made_refused (texts.Picture limit) text made is = subst IsRefused (sym is) (drawn_refused limit (picture_of text))
 
+explain_refused : (error : ExplainError) → IsOfOutput (stage_of (explain_refusal error))
+explain_refused (explain.Depends attempt) = tt
+explain_refused (explain.TooLong attempt) = tt
+explain_refused explain.NoMemory = tt
+
+explanation_refused : (prefix : List Base) (len attempts limit : ℕ) (made : Result Explained Status) → IsExplanation prefix len attempts limit made → IsRefused made
+explanation_refused prefix len attempts limit made is = subst IsRefused (sym is.tells) (told_refused explain_refusal is.answer explain_refused)
+
 answer_told : {A : Type 0} (text : A → List ℕ) (made : Result A Status) (output : Output) → IsRefused made → output ≡ answered text made → IsTold output
 answer_told text (Ok value) output refused is = inl (ap (λ (o : Output). stage_of o.status) is)
 answer_told text (Err status) output refused is = inr (subst (λ (o : Output). IsOfOutput (stage_of o.status)) (sym is) refused, ap (λ (o : Output). o.bytes) is)
@@ -91,6 +103,7 @@ output_told (inputs.Run verb dna budget limit) output is = inl (ap stage_of (bod
 output_told (inputs.Trace dna budget limit) output is = inl (ap (λ (o : Output). stage_of o.status) is.tells ∙ end_stage false is.run.end)
 output_told (inputs.Plain plain) output is = inl (ap stage_of (body_status Done (plain_body plain) output is))
 output_told (inputs.Listing dna count) output is = inl (ap (λ (o : Output). stage_of o.status) is.is)
+output_told (inputs.Explain prefix len attempts limit) output is = answer_told explained_text is.made output (explanation_refused prefix len attempts limit is.made is.is) is.tells
 output_told (inputs.Rewind dna orders limit) output is = inl (ap (λ (o : Output). stage_of o.status) is.is)
 output_told (inputs.Text verb text) output is = answer_told letters is.made output (made_refused verb text is.made is.is) is.tells
 output_told (inputs.Bench seed size rounds) output is = inl (ap (λ (o : Output). stage_of o.status) is.tells)

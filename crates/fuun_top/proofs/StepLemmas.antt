@@ -47,6 +47,7 @@ none_of_inputs (inputs.Run verb dna budget limit) old = λ run total is weigh. (
 none_of_inputs (inputs.Trace dna budget limit) old = λ run total is weigh. (omega arith, omega arith)
 none_of_inputs (inputs.Plain plain) old = refl
 none_of_inputs (inputs.Listing dna count) old = (omega arith, omega arith)
+none_of_inputs (inputs.Explain prefix len attempts limit) old = refl
 none_of_inputs (inputs.Rewind dna orders limit) old = λ total weighs. (omega arith, omega arith)
 none_of_inputs (inputs.Text verb text) old = refl
 none_of_inputs (inputs.Bench seed size rounds) old = λ run total is weigh. (omega arith, omega arith)

@@ -2,7 +2,7 @@
 use Rattle.fuun_words.specs.declared.request.Request.{Request}
 use Rattle.fuun_words.specs.declared.request.Request.TheVariants as words
 use Rattle.fuun_top.specs.declared.request.Asked.{Asked}
-use Rattle.fuun_top.specs.declared.request.Asked.TheVariants.{Run, Trace, Rna, Listing, Text, Rewind, Bench}
+use Rattle.fuun_top.specs.declared.request.Asked.TheVariants.{Run, Trace, Rna, Listing, Text, Explain, Rewind, Bench}
 use Rattle.fuun_top.specs.declared.request.RunVerb.TheVariants as run
 use Rattle.fuun_top.specs.declared.request.RnaVerb.TheVariants as rna
 use Rattle.fuun_top.specs.declared.request.TextVerb.TheVariants as text
@@ -21,4 +21,5 @@ sorted (words.Patch name limit) = Text (text.Patch limit) name
 sorted (words.Bench seed size rounds) = Bench seed size rounds
 sorted (words.Assemble name) = Text text.Assemble name
 sorted (words.Picture name limit) = Text (text.Picture limit) name
+sorted (words.Explain asked) = Explain asked
 sorted (words.Rewind asked) = Rewind asked

@@ -12,10 +12,14 @@ use Rattle.assembler.specs.declared.assembling.AsmError.TheVariants as assemble
 use Rattle.assembler.specs.Answers.{IsAssembled}
 use Rattle.picture_in.specs.Pixmap.{Rgb, picture_of}
 use Rattle.draw_compile.specs.Drawing.{drawing}
+use Rattle.explainer.specs.declared.explained.Explained.{Explained}
+use Rattle.explainer.specs.declared.explained.ExplainError.{ExplainError}
+use Rattle.explainer.specs.declared.explained.ExplainError.TheVariants as explain
+use Rattle.explainer.specs.Answers.{IsExplained}
 use Rattle.fuun_top.specs.declared.request.TextVerb.{TextVerb}
 use Rattle.fuun_top.specs.declared.request.TextVerb.TheVariants.{Patch, Assemble, Picture}
 use Rattle.fuun_top.specs.declared.status.Status.{Status}
-use Rattle.fuun_top.specs.declared.status.Status.TheVariants.{TooLong, BadToml, BadPatch, Outside, BadText, Unreadable, BadPpm, NoMemory}
+use Rattle.fuun_top.specs.declared.status.Status.TheVariants.{TooLong, BadToml, BadPatch, Outside, BadText, Unreadable, Depends, BadPpm, NoMemory}
 
 -- a value, or the status that tells an error
 abbrev pub told : {A E : Type 0} → (E → Status) → Result A E → Result A Status
@@ -63,6 +67,18 @@ drawn_within limit dna = if nat_lt limit (length dna) then Err (TooLong 0) else 
 abbrev pub drawn : ℕ → Option (List Rgb) → Result (List Base) Status
 drawn limit None = Err BadPpm
 drawn limit (Some picture) = drawn_within limit (drawing picture)
+
+-- why it is not told what a prefix does
+abbrev pub explain_refusal : ExplainError → Status
+explain_refusal (explain.Depends attempt) = Depends attempt
+explain_refusal (explain.TooLong attempt) = TooLong attempt
+explain_refusal explain.NoMemory = NoMemory
+
+-- what a prefix does to every DNA of a length is told, or refused
+pub record IsExplanation (prefix : List Base) (len attempts limit : ℕ) (made : Result Explained Status) : Type 0 where
+  pub answer : Result Explained ExplainError
+  pub is : IsExplained prefix len attempts limit answer
+  pub tells : made ≡ told explain_refusal answer
 
 -- the DNA that a verb makes of a text, or the status that refuses the text
 abbrev pub IsMade : TextVerb → List ℕ → Result (List Base) Status → Type 0

@@ -23,7 +23,7 @@ use Rattle.fuun_top.specs.declared.request.RnaVerb.TheVariants.{Draw, Names}
 use Rattle.fuun_top.specs.declared.status.Status.{Status}
 use Rattle.fuun_top.specs.declared.status.Status.TheVariants.{Done, Usage, OutOfBudget, TooLong}
 use Rattle.fuun_top.specs.Reading.{Files, Reading, inputs_of}
-use Rattle.fuun_top.specs.Making.{IsMade}
+use Rattle.fuun_top.specs.Making.{IsExplanation, IsMade}
 use Rattle.fuun_top.specs.Bench.{load_dna, load_limit, summary_of}
 use Rattle.workload.specs.Summary.{summary_text}
 use Rattle.fuun_top.specs.Asked.{sorted}
@@ -33,6 +33,7 @@ use Rattle.fuun_words.specs.Requests.{request}
 use Rattle.tracer.specs.Lines.{trace_text}
 use Rattle.rewinder.specs.declared.orders.Order.{Order}
 use Rattle.rewinder.specs.Texts.{Writes}
+use Rattle.explainer.specs.Lines.{explained_text}
 
 -- a status with the bytes that are written before it
 pub record Output : Type 0 where
@@ -140,6 +141,7 @@ IsOutputOf (inputs.Run verb dna budget limit) output = IsRunOutput verb dna budg
 IsOutputOf (inputs.Trace dna budget limit) output = IsTraceOutput dna budget limit output
 IsOutputOf (inputs.Plain plain) output = IsBody Done (plain_body plain) output
 IsOutputOf (inputs.Listing dna count) output = IsListingOutput dna count output
+IsOutputOf (inputs.Explain prefix len attempts limit) output = IsAnswer (IsExplanation prefix len attempts limit) explained_text output
 IsOutputOf (inputs.Rewind dna orders limit) output = IsRewindOutput dna orders limit output
 IsOutputOf (inputs.Text verb text) output = IsAnswer (IsMade verb text) letters output
 IsOutputOf (inputs.Bench seed size rounds) output = IsBenchOutput seed size rounds output

@@ -1,5 +1,5 @@
 -- What is read of what is asked for: its files one after another, each to its end and then judged. The first refusal decides.
-use Rattle.std.specs.Prelude.{ℕ, ◌^◌, if◌then◌else◌, Option, Some, None, Result, Ok, Err, List, [], ◌∷◌, ◌++◌, length, nat_lt}
+use Rattle.std.specs.Prelude.{ℕ, ◌+◌, ◌^◌, if◌then◌else◌, Option, Some, None, Result, Ok, Err, List, [], ◌∷◌, ◌++◌, length, nat_lt}
 use Rattle.std.specs.Option.{option_map}
 use Rattle.fuun_base.specs.declared.letters.Base.{Base}
 use Rattle.fuun_base.specs.DnaFile.{bases, first_other}
@@ -12,10 +12,11 @@ use Rattle.fuun_top.specs.declared.status.InFile.TheVariants as file
 use Rattle.fuun_top.specs.declared.status.Status.{Status}
 use Rattle.fuun_top.specs.declared.status.Status.TheVariants.{BadBase, BadRna, BadScript, InputTooLong, StartTooLong}
 use Rattle.fuun_top.specs.declared.request.Asked.{Asked}
-use Rattle.fuun_top.specs.declared.request.Asked.TheVariants.{Run, Trace, Rna, Listing, Text, Rewind, Bench}
+use Rattle.fuun_top.specs.declared.request.Asked.TheVariants.{Run, Trace, Rna, Listing, Text, Explain, Rewind, Bench}
 use Rattle.fuun_top.specs.declared.request.TextVerb.{TextVerb}
 use Rattle.fuun_top.specs.declared.request.TextVerb.TheVariants as text
 use Rattle.fuun_words.specs.declared.request.RunWords.{RunWords}
+use Rattle.fuun_words.specs.declared.request.ExplainWords.{ExplainWords}
 use Rattle.fuun_words.specs.declared.request.RewindWords.{RewindWords}
 use Rattle.rewinder.specs.declared.orders.Order.{Order}
 use Rattle.rewinder.specs.Script.{first_bad as first_bad_order, orders}
@@ -59,6 +60,7 @@ files_of (Trace words) = run_files words
 files_of (Rna verb name) = name ∷ []
 files_of (Listing name count) = name ∷ []
 files_of (Text verb name) = name ∷ []
+files_of (Explain words) = words.prefix ∷ []
 files_of (Rewind words) = rewind_files words
 files_of (Bench seed size rounds) = []
 
@@ -127,6 +129,12 @@ guided_in files prefix script =
     then_read (script_in files script) (λ orders.
     Some (Ok (bases, orders))))
 
+-- a prefix for a target of so many bases, where together they are within the limit
+abbrev pub explained : ExplainWords → List Base → Result Inputs Status
+explained words prefix =
+    if nat_lt words.limit (length prefix + words.length) then Err StartTooLong
+    else Ok (inputs.Explain prefix words.length words.attempts words.limit)
+
 -- a start, and the orders for it
 abbrev pub rewound : ℕ → List Base → List Order → Result Inputs Status
 rewound limit dna orders = if nat_lt limit (length dna) then Err StartTooLong else Ok (inputs.Rewind dna orders limit)
@@ -141,6 +149,8 @@ inputs_of files (Rna verb name) =
     then_read (rna_in files name) (λ commands. Some (Ok (inputs.Plain (plain.Rna verb commands))))
 inputs_of files (Listing name count) =
     then_read (dna_in files file.Dna name) (λ dna. Some (Ok (inputs.Listing dna count)))
+inputs_of files (Explain words) =
+    then_read (dna_in files file.Prefix words.prefix) (λ prefix. Some (explained words prefix))
 inputs_of files (Rewind words) =
     then_read (dna_in files file.Dna words.dna) (λ dna.
     then_read (guided_in files words.prefix words.script) (λ guided.

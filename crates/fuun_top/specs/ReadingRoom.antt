@@ -10,10 +10,10 @@ use Rattle.fuun_top.specs.Answer.{told_bytes}
 use Rattle.fuun_top.specs.Reading.{Files, Reading, most_bytes}
 use Rattle.fuun_top.specs.Stages.{stage_of, IsOfInputs}
 use Rattle.fuun_top.specs.declared.request.Asked.{Asked}
-use Rattle.fuun_top.specs.declared.request.Asked.TheVariants.{Run, Trace, Rna, Listing, Text, Rewind, Bench}
+use Rattle.fuun_top.specs.declared.request.Asked.TheVariants.{Run, Trace, Rna, Listing, Text, Explain, Rewind, Bench}
 use Rattle.fuun_top.specs.declared.request.TextVerb.{TextVerb}
 use Rattle.fuun_top.specs.declared.request.TextVerb.TheVariants.{Patch, Assemble, Picture}
-use Rattle.fuun_words.specs.Requests.{IsRunInRange}
+use Rattle.fuun_words.specs.Requests.{IsRunInRange, IsExplanationInRange}
 
 -- contents were judged so, or memory was wanted
 pub record Judges {A : Type 0} (judged result : Result A Status) : Type 0 where
@@ -49,6 +49,7 @@ IsInRange (Trace words) = IsRunInRange words
 IsInRange (Rna verb name) = Unit {0}
 IsInRange (Listing name count) = Unit {0}
 IsInRange (Text verb name) = IsTextInRange verb
+IsInRange (Explain words) = IsExplanationInRange words
 IsInRange (Rewind words) = (1 ≤ words.limit) × (words.limit ≤ 2 ^ 40)
 IsInRange (Bench seed size rounds) = IsLoadInRange seed size rounds
 
@@ -58,6 +59,7 @@ AreInRange (inputs.Run verb dna budget limit) = (budget ≤ 2 ^ 40) × (1 ≤ li
 AreInRange (inputs.Trace dna budget limit) = (budget ≤ 2 ^ 40) × (1 ≤ limit) × (limit ≤ 2 ^ 40) × (length dna ≤ limit)
 AreInRange (inputs.Plain plain) = Unit {0}
 AreInRange (inputs.Listing dna count) = length dna ≤ most_bytes
+AreInRange (inputs.Explain prefix len attempts limit) = (attempts ≤ 2 ^ 40) × (1 ≤ limit) × (limit ≤ 2 ^ 40) × (length prefix + len ≤ limit)
 AreInRange (inputs.Rewind dna orders limit) = (1 ≤ limit) × (limit ≤ 2 ^ 40) × (length dna ≤ limit)
 AreInRange (inputs.Text verb text) = IsTextInRange verb × (length text ≤ most_bytes)
 AreInRange (inputs.Bench seed size rounds) = IsLoadInRange seed size rounds

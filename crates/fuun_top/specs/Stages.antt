@@ -1,6 +1,6 @@
 -- Where in a call a status is decided.
 use Rattle.fuun_top.specs.declared.status.Status.{Status}
-use Rattle.fuun_top.specs.declared.status.Status.TheVariants.{Done, Usage, OutOfBudget, TooLong, BadBase, BadRna, BadToml, BadPatch, Outside, BadText, Unreadable, BadScript, BadPpm, InputTooLong, ReadFault, WriteFault, NoMemory, StartTooLong}
+use Rattle.fuun_top.specs.declared.status.Status.TheVariants.{Done, Usage, OutOfBudget, TooLong, BadBase, BadRna, BadToml, BadPatch, Outside, BadText, Unreadable, Depends, BadScript, BadPpm, InputTooLong, ReadFault, WriteFault, NoMemory, StartTooLong}
 
 -- the words, the reading of a file, what a file holds, the output that is defined, its writing; memory is wanted anywhere
 pub data Stage : Type 0 where
@@ -24,6 +24,7 @@ stage_of (BadPatch number) = ByContents
 stage_of (Outside number) = ByContents
 stage_of (BadText line) = ByContents
 stage_of (Unreadable line) = ByContents
+stage_of (Depends attempt) = ByContents
 stage_of (BadScript line) = ByContents
 stage_of BadPpm = ByContents
 stage_of (InputTooLong file) = ByReading

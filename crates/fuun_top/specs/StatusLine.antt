@@ -3,7 +3,7 @@ use Rattle.std.specs.Prelude.{ℕ, List, [], ◌∷◌, ◌++◌, codes, decimal
 use Rattle.fuun_top.specs.declared.status.InFile.{InFile}
 use Rattle.fuun_top.specs.declared.status.InFile.TheVariants.{Dna, Prefix, Rna, Patch, Text, Script, Ppm}
 use Rattle.fuun_top.specs.declared.status.Status.{Status}
-use Rattle.fuun_top.specs.declared.status.Status.TheVariants.{Done, Usage, OutOfBudget, TooLong, BadBase, BadRna, BadToml, BadPatch, Outside, InputTooLong, ReadFault, WriteFault, NoMemory, StartTooLong, BadText, Unreadable, BadScript, BadPpm}
+use Rattle.fuun_top.specs.declared.status.Status.TheVariants.{Done, Usage, OutOfBudget, TooLong, BadBase, BadRna, BadToml, BadPatch, Outside, InputTooLong, ReadFault, WriteFault, NoMemory, StartTooLong, BadText, Unreadable, Depends, BadScript, BadPpm}
 
 -- the name of a file that the words name
 abbrev pub file_name : InFile → List ℕ
@@ -33,6 +33,7 @@ number_of NoMemory = 13
 number_of StartTooLong = 14
 number_of (BadText number) = 15
 number_of (Unreadable number) = 16
+number_of (Depends attempt) = 17
 number_of (BadScript number) = 18
 number_of BadPpm = 19
 
@@ -58,5 +59,6 @@ status_line NoMemory = line (codes "no memory")
 status_line StartTooLong = line (codes "start too long")
 status_line (BadText number) = line (codes "text: line " ++ decimal number ++ codes " is not a pair")
 status_line (Unreadable number) = line (codes "text: line " ++ decimal number ++ codes " has no DNA")
+status_line (Depends attempt) = line (codes "attempt " ++ decimal attempt ++ codes " depends on the target")
 status_line (BadScript number) = line (codes "script: line " ++ decimal number ++ codes " is refused")
 status_line BadPpm = line (codes "ppm: refused")

@@ -39,6 +39,7 @@ InputsTick (inputs.Run verb dna budget limit) old new = RunTicks dna budget limi
 InputsTick (inputs.Trace dna budget limit) old new = RunTicks dna budget limit old new
 InputsTick (inputs.Plain plain) old new = new ≡ old
 InputsTick (inputs.Listing dna count) old new = Ticks old new (start_steps (length dna))
+InputsTick (inputs.Explain prefix len attempts limit) old new = new ≡ old
 InputsTick (inputs.Rewind dna orders limit) old new = RewindTicks dna orders limit old new
 InputsTick (inputs.Text verb text) old new = new ≡ old
 InputsTick (inputs.Bench seed size rounds) old new = RunTicks (load_dna seed size rounds) rounds load_limit old new

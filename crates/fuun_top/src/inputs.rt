@@ -1,8 +1,8 @@
 // The reading room: from a request to its inputs.
 ghost use Rattle.std.specs.Prelude.{◌≡◌, ◌^◌, ◌≤◌, ◌∷◌, [], ◌++◌, length, IfOk, Some};
 ghost use Rattle.fuun_top.specs.Answer.{AreAllowed};
-ghost use Rattle.fuun_top.specs.declared.request.Asked.TheVariants.{Run, Trace, Rna, Listing, Text, Rewind};
-ghost use Rattle.fuun_top.specs.Reading.{files_of, guided_in, inputs_of, rewound, run_files, start_in, started, with_prefix};
+ghost use Rattle.fuun_top.specs.declared.request.Asked.TheVariants.{Run, Trace, Rna, Listing, Text, Explain, Rewind};
+ghost use Rattle.fuun_top.specs.Reading.{explained, files_of, guided_in, inputs_of, most_bytes, rewound, run_files, start_in, started, with_prefix};
 ghost use Rattle.fuun_top.specs.ReadingRoom.{AreInRange, IsInRange, Judges, Reads};
 
 use crate::files::{dna_file, file_bytes, prefix_file, rna_file, script_file};
@@ -10,7 +10,7 @@ use crate::request::{Asked, RnaVerb, RunVerb, TextVerb};
 use crate::{InFile, Status};
 use fuun_base::{BaseList, CommandList, List, NoMemory};
 use fuun_io::Folder;
-use fuun_words::{Name, RewindWords, RunWords};
+use fuun_words::{ExplainWords, Name, RewindWords, RunWords};
 use rewinder::OrderList;
 use std::alloc::Global;
 
@@ -35,6 +35,13 @@ pub(crate) enum Inputs {
     Listing {
         dna: BaseList,
         count: u64,
+    },
+    /// A prefix, the bases of the target, the most attempts, and the greatest length in bases.
+    Explain {
+        prefix: BaseList,
+        length: u64,
+        attempts: u64,
+        limit: u64,
     },
     /// A run that a script goes through: the DNA that it starts from, the orders, and the greatest length in bases.
     Rewind {
@@ -79,6 +86,7 @@ pub(crate) fn read_inputs<F: Folder>(
         Asked::Trace(words) => read_traced(alloc, folder, words),
         Asked::Rna(verb, name) => read_commands(alloc, folder, *verb, name.as_str()),
         Asked::Listing(name, count) => read_listed(alloc, folder, name.as_str(), *count),
+        Asked::Explain(words) => read_explained(alloc, folder, words),
         Asked::Rewind(words) => read_rewound(alloc, folder, words),
         Asked::Text(verb, name) => read_text(alloc, folder, *verb, name.as_str()),
         Asked::Bench { seed, size, rounds } => Ok(Inputs::Bench {
@@ -235,6 +243,43 @@ fn read_text<F: Folder>(
         Ok(text) => Ok(Inputs::Text { verb, text }),
         Err(status) => Err(status),
     }
+}
+
+/// Reads the prefix file of what is to be explained.
+fn read_explained<F: Folder>(
+    alloc: Global,
+    folder: &mut F,
+    words: &ExplainWords,
+) -> Result<Inputs, Status>
+    requires allowed { AreAllowed (F.allows folder.old) (files_of (Explain words.now)) }
+    requires in_range { IsInRange (Explain words.now) }
+    ensures reads { Reads (F.contents folder.old) (files_of (Explain words.now))
+        (inputs_of (F.contents folder.old) (Explain words.now))
+        result (F.given folder.old) (F.given folder.new) (F.faults folder.old) (F.faults folder.new) }
+    ensures in_range { IfOk result AreInRange }
+{
+    match dna_file(alloc, folder, words.prefix.as_str(), InFile::Prefix) {
+        Ok(prefix) => explained(prefix, words),
+        Err(status) => Err(status),
+    }
+}
+
+/// A prefix for a target, where together they are within the limit.
+fn explained(prefix: BaseList, words: &ExplainWords) -> Result<Inputs, Status>
+    requires in_range { IsInRange (Explain words.now) }
+    requires most { length prefix ≤ most_bytes }
+    ensures judges { Judges (explained words.now prefix) result }
+    ensures in_range { IfOk result AreInRange }
+{
+    if prefix.len() as u64 + words.length > words.limit {
+        return Err(Status::StartTooLong);
+    }
+    Ok(Inputs::Explain {
+        prefix,
+        length: words.length,
+        attempts: words.attempts,
+        limit: words.limit,
+    })
 }
 
 /// Reads the files of a run that a script goes through, and joins prefix and DNA.

@@ -2,6 +2,8 @@
 #![tactic(auto)]
 
 mod bench;
+#[cfg(test)]
+mod fault_tests;
 mod files;
 mod inputs;
 pub mod laws;

@@ -3,10 +3,12 @@ ghost use Rattle.std.specs.Prelude.{◌≡◌, ◌^◌, ◌≤◌, length};
 ghost use Rattle.draw_compile.specs.Drawing.{drawing};
 ghost use Rattle.patch_compile.specs.Compiled.{compiled};
 ghost use Rattle.picture_in.specs.Pixmap.{picture_of};
-ghost use Rattle.fuun_top.specs.Making.{IsAssembledText, IsMade, compile_refusal, drawn, drawn_within, patch_prefix, told};
+ghost use Rattle.explainer.specs.Lines.{explained_text};
+ghost use Rattle.fuun_top.specs.declared.inputs.Inputs.TheVariants as inputs;
+ghost use Rattle.fuun_top.specs.Making.{IsAssembledText, IsExplanation, IsMade, compile_refusal, drawn, drawn_within, patch_prefix, told};
 ghost use Rattle.fuun_top.specs.Output.{IsAnswer};
 ghost use Rattle.fuun_top.specs.Reading.{most_bytes};
-ghost use Rattle.fuun_top.specs.ReadingRoom.{IsTextInRange};
+ghost use Rattle.fuun_top.specs.ReadingRoom.{AreInRange, IsTextInRange};
 ghost use Rattle.fuun_top.specs.Texts.{letters};
 ghost use Rattle.fuun_top.specs.WritingRoom.{Makes, Wrote};
 
@@ -16,6 +18,7 @@ use crate::output::status_after;
 use crate::request::TextVerb;
 use assembler::{AsmError, assemble};
 use draw_compile::{DrawError, compile_picture};
+use explainer::{ExplainError, Explained, explain, put_explained};
 use fuun_base::{BaseList, List};
 use fuun_io::Sink;
 use patch_compile::{CompileError, compile};
@@ -115,5 +118,43 @@ fn drawn(alloc: Global, picture: &Picture, limit: u64) -> Result<BaseList, Statu
         Ok(dna) => Ok(dna),
         Err(DrawError::TooLong) => Err(Status::TooLong { attempt: 0 }),
         Err(DrawError::NoMemory) => Err(Status::NoMemory),
+    }
+}
+
+/// Writes what a prefix does to every DNA of `length` bases in up to `attempts` attempts, or answers why that is not told.
+pub(crate) fn put_explained_prefix<S: Sink>(
+    alloc: Global,
+    prefix: &BaseList,
+    length: u64,
+    attempts: u64,
+    limit: u64,
+    out: &mut S,
+) -> Status
+    requires { AreInRange (inputs.Explain prefix.now length attempts limit) }
+    ensures { Wrote (IsAnswer (IsExplanation prefix.now length attempts limit) explained_text) result
+        (S.bytes out.old) (S.bytes out.new) (S.faults out.old) (S.faults out.new) }
+{
+    match explained(alloc, prefix, length, attempts, limit) {
+        Ok(found) => status_after(put_explained(&found, out), Status::Done),
+        Err(refusal) => refusal,
+    }
+}
+
+/// What a prefix does to every DNA of `length` bases in up to `attempts` attempts.
+fn explained(
+    alloc: Global,
+    prefix: &BaseList,
+    length: u64,
+    attempts: u64,
+    limit: u64,
+) -> Result<Explained, Status>
+    requires { AreInRange (inputs.Explain prefix.now length attempts limit) }
+    ensures { Makes (IsExplanation prefix.now length attempts limit) result }
+{
+    match explain(alloc, prefix.as_slice(), length, attempts, limit) {
+        Ok(found) => Ok(found),
+        Err(ExplainError::Depends { attempt }) => Err(Status::Depends { attempt }),
+        Err(ExplainError::TooLong { attempt }) => Err(Status::TooLong { attempt }),
+        Err(ExplainError::NoMemory) => Err(Status::NoMemory),
     }
 }

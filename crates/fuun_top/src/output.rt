@@ -11,7 +11,7 @@ use crate::Status;
 use crate::bench::put_bench;
 use crate::inputs::{Inputs, Plain};
 use crate::listed::put_listing;
-use crate::making::put_text;
+use crate::making::{put_explained_prefix, put_text};
 use crate::pictures::put_drawing;
 use crate::request::{RnaVerb, RunVerb};
 use crate::rewound::put_rewound;
@@ -45,6 +45,12 @@ pub(crate) fn put_output<S: Sink, L: Ledger>(
         Inputs::Trace { dna, budget, limit } => put_trace(alloc, dna, budget, limit, out, steps),
         Inputs::Plain(plain) => put_plain(alloc, &plain, out),
         Inputs::Listing { dna, count } => put_listing(alloc, dna, count, out, steps),
+        Inputs::Explain {
+            prefix,
+            length,
+            attempts,
+            limit,
+        } => put_explained_prefix(alloc, &prefix, length, attempts, limit, out),
         Inputs::Rewind { dna, orders, limit } => put_rewound(
             alloc, dna, &orders, limit, out, steps,
         ),

@@ -5,7 +5,7 @@ ghost use Rattle.fuun_top.specs.ReadingRoom.{IsInRange};
 ghost use Rattle.fuun_words.specs.Requests.{IsInRange as IsRequestInRange};
 
 use crate::InFile;
-use fuun_words::{Name, Request, RewindWords, RunWords};
+use fuun_words::{ExplainWords, Name, Request, RewindWords, RunWords};
 use rna_code::Profile;
 
 /// What is written of a run.
@@ -65,6 +65,8 @@ pub(crate) enum Asked {
     Listing(Name, u64),
     /// The DNA that is made of a text, by its file's name.
     Text(TextVerb, Name),
+    /// What a prefix does to every DNA of a length.
+    Explain(ExplainWords),
     /// A run that a script goes through, forward and back.
     Rewind(RewindWords),
     /// A run on a load that is drawn from a seed.
@@ -89,6 +91,7 @@ pub(crate) fn sorted(request: Request) -> Asked
         Request::Bench { seed, size, rounds } => Asked::Bench { seed, size, rounds },
         Request::Assemble { text } => Asked::Text(TextVerb::Assemble, text),
         Request::Picture { ppm, limit } => Asked::Text(TextVerb::Picture { limit }, ppm),
+        Request::Explain(words) => Asked::Explain(words),
         Request::Rewind(words) => Asked::Rewind(words),
     }
 }

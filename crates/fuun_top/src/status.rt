@@ -53,6 +53,8 @@ pub enum Status {
     BadText { line: u64 },
     /// This line of the text, counted from 1, has a pattern that no DNA is read as.
     Unreadable { line: u64 },
+    /// What this attempt, counted from 0, does depends on the target.
+    Depends { attempt: u64 },
     /// This line of the script, counted from 1, is no order.
     BadScript { line: u64 },
     /// The file does not begin as a picture of 600 by 600 pixels.
@@ -97,6 +99,7 @@ impl Status {
             Status::StartTooLong => 14,
             Status::BadText { .. } => 15,
             Status::Unreadable { .. } => 16,
+            Status::Depends { .. } => 17,
             Status::BadScript { .. } => 18,
             Status::BadPpm => 19,
         }
@@ -130,6 +133,9 @@ pub fn put_status<S: Sink>(status: &Status, sink: &mut S) -> Result<(), WriteFau
         Status::StartTooLong => put_pieces(sink, &[b"fuun: start too long\n"]),
         Status::BadText { line } => put_numbered(sink, b"text: line ", line, b" is not a pair"),
         Status::Unreadable { line } => put_numbered(sink, b"text: line ", line, b" has no DNA"),
+        Status::Depends { attempt } => {
+            put_numbered(sink, b"attempt ", attempt, b" depends on the target")
+        }
         Status::BadScript { line } => put_numbered(sink, b"script: line ", line, b" is refused"),
         Status::BadPpm => put_pieces(sink, &[b"fuun: ppm: refused\n"]),
     }

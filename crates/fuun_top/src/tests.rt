@@ -597,6 +597,11 @@ fn statuses_have_their_lines(rt: HostRuntime) -> Result<(), Fail> {
             b"fuun: text: line 30 has no DNA\n".as_slice(),
         ),
         (
+            Status::Depends { attempt: 4 },
+            17,
+            b"fuun: attempt 4 depends on the target\n".as_slice(),
+        ),
+        (
             Status::BadScript { line: 2 },
             18,
             b"fuun: script: line 2 is refused\n".as_slice(),

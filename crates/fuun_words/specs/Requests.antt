@@ -8,11 +8,12 @@ use Rattle.rna_code.specs.declared.profile.Profile.{Profile}
 use Rattle.fuun_words.specs.declared.request.Request.{Request}
 use Rattle.fuun_words.specs.declared.request.Request.TheVariants as asked
 use Rattle.fuun_words.specs.declared.request.RunWords.{RunWords}
+use Rattle.fuun_words.specs.declared.request.ExplainWords.{ExplainWords}
 use Rattle.fuun_words.specs.declared.request.RewindWords.{RewindWords}
 use Rattle.fuun_words.specs.declared.request.WordsError.{WordsError}
 use Rattle.fuun_words.specs.declared.request.WordsError.TheVariants.{Usage}
 use Rattle.fuun_words.specs.declared.verb.Verb.{Verb}
-use Rattle.fuun_words.specs.declared.verb.Verb.TheVariants.{Rna, Image, Trace, Dna, Draw, Names, List as Pairs, Patch, Bench, Assemble, Picture, Rewind}
+use Rattle.fuun_words.specs.declared.verb.Verb.TheVariants.{Rna, Image, Trace, Dna, Draw, Names, List as Pairs, Patch, Bench, Assemble, Picture, Explain, Rewind}
 
 -- the texts of words
 abbrev pub texts : {Z : Type 0} → List (String Z) → List (List ℕ)
@@ -43,7 +44,7 @@ abbrev pub run_of : List Row → Option RunWords
 run_of rows =
     run (first_of (codes "dna") rows) (first_of (codes "prefix") rows) (budget_of rows) (limit_of rows)
 
--- what the words of a load and of a rewound run ask for, where each of them is there
+-- what the words of a load, of an explanation and of a rewound run ask for, where each of them is there
 abbrev pub bench : Option ℕ → Option ℕ → Option ℕ → Option Request
 bench (Some seed) (Some size) (Some rounds) = Some (asked.Bench seed size rounds)
 bench _ _ _ = None
@@ -51,6 +52,15 @@ bench _ _ _ = None
 abbrev pub bench_of : List Row → Option Request
 bench_of rows =
     bench (number_of (codes "seed") (2 ^ 31 - 1) rows) (number_of (codes "size") (2 ^ 24) rows) (number_of (codes "rounds") (2 ^ 16) rows)
+
+abbrev pub explanation : Option Text → Option ℕ → Option ℕ → Option ℕ → Option ExplainWords
+explanation (Some prefix) (Some len) (Some attempts) (Some limit) =
+    Some (record { prefix = prefix; length = len; attempts = attempts; limit = limit })
+explanation _ _ _ _ = None
+
+abbrev pub explanation_of : List Row → Option ExplainWords
+explanation_of rows =
+    explanation (first_of (codes "prefix") rows) (number_of (codes "length") (2 ^ 40) rows) (number_of (codes "attempts") (2 ^ 40) rows) (limit_of rows)
 
 abbrev pub rewound : Option Text → Option Text → Option Text → Option ℕ → Option RewindWords
 rewound (Some dna) prefix (Some script) (Some limit) =
@@ -79,6 +89,7 @@ request_of Patch rows = both asked.Patch (first_of (codes "file") rows) (limit_o
 request_of Bench rows = bench_of rows
 request_of Assemble rows = option_map asked.Assemble (first_of (codes "text") rows)
 request_of Picture rows = both asked.Picture (first_of (codes "ppm") rows) (limit_of rows)
+request_of Explain rows = option_map asked.Explain (explanation_of rows)
 request_of Rewind rows = option_map asked.Rewind (rewound_of rows)
 
 -- what words ask for: nothing where they are in no form that a verb has
@@ -97,6 +108,12 @@ pub record IsRunInRange (run : RunWords) : Type 0 where
   pub some : 1 ≤ run.limit
   pub limit : run.limit ≤ 2 ^ 40
 
+pub record IsExplanationInRange (asked : ExplainWords) : Type 0 where
+  pub len : asked.length ≤ 2 ^ 40
+  pub attempts : asked.attempts ≤ 2 ^ 40
+  pub some : 1 ≤ asked.limit
+  pub limit : asked.limit ≤ 2 ^ 40
+
 -- each number of a request lies in its range
 abbrev pub IsInRange : Request → Type 0
 IsInRange (asked.Rna run) = IsRunInRange run
@@ -110,4 +127,5 @@ IsInRange (asked.Patch file limit) = (1 ≤ limit) × (limit ≤ 2 ^ 40)
 IsInRange (asked.Bench seed size rounds) = (seed < 2 ^ 31) × (size ≤ 2 ^ 24) × (rounds ≤ 2 ^ 16)
 IsInRange (asked.Assemble text) = Unit {0}
 IsInRange (asked.Picture ppm limit) = (1 ≤ limit) × (limit ≤ 2 ^ 40)
+IsInRange (asked.Explain words) = IsExplanationInRange words
 IsInRange (asked.Rewind words) = (1 ≤ words.limit) × (words.limit ≤ 2 ^ 40)

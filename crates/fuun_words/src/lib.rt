@@ -11,7 +11,7 @@ mod verb;
 
 pub use name::Name;
 pub use read::read_request;
-pub use request::{Request, RewindWords, RunWords, WordsError};
+pub use request::{ExplainWords, Request, RewindWords, RunWords, WordsError};
 
 #[cfg(test)]
 mod tests;

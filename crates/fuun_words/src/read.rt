@@ -1,7 +1,7 @@
 //! From words to a request.
 ghost use Rattle.std.specs.Prelude.{◌≡◌, ◌≤◌, ◌^◌, IfErr, IfOk, None, Some};
 ghost use Rattle.fuun_words.specs.Commands.{found_in};
-ghost use Rattle.fuun_words.specs.Requests.{bench_of, request, request_of, rewound_of, run_of, texts, IsInRange, IsRunInRange, Reads};
+ghost use Rattle.fuun_words.specs.Requests.{bench_of, explanation_of, request, request_of, rewound_of, run_of, texts, IsExplanationInRange, IsInRange, IsRunInRange, Reads};
 
 use crate::command::find_options;
 use crate::values::{
@@ -9,7 +9,7 @@ use crate::values::{
     required_number,
 };
 use crate::verb::Verb;
-use crate::{Request, RewindWords, RunWords, WordsError};
+use crate::{ExplainWords, Request, RewindWords, RunWords, WordsError};
 use clap::ArgMatches;
 use std::alloc::Global;
 
@@ -72,6 +72,7 @@ fn request_from(alloc: Global, verb: Verb, matches: &ArgMatches<'_>) -> Result<R
             ppm: required_name(alloc, matches, "ppm")?,
             limit: limit(matches)?,
         }),
+        Verb::Explain => Ok(Request::Explain(explain_words(alloc, matches)?)),
         Verb::Rewind => Ok(Request::Rewind(rewind_words(alloc, matches)?)),
     }
 }
@@ -96,6 +97,18 @@ fn bench_request(matches: &ArgMatches<'_>) -> Result<Request, WordsError>
         seed: required_number(matches, "seed", MOST_SEED)?,
         size: required_number(matches, "size", MOST_SIZE)?,
         rounds: required_number(matches, "rounds", MOST_ROUNDS)?,
+    })
+}
+
+fn explain_words(alloc: Global, matches: &ArgMatches<'_>) -> Result<ExplainWords, WordsError>
+    ensures read { Reads (explanation_of (found_in matches.now)) result }
+    ensures range { IfOk result IsExplanationInRange }
+{
+    Ok(ExplainWords {
+        prefix: required_name(alloc, matches, "prefix")?,
+        length: required_number(matches, "length", MOST)?,
+        attempts: required_number(matches, "attempts", MOST)?,
+        limit: limit(matches)?,
     })
 }
 

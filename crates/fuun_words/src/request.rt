@@ -45,8 +45,22 @@ pub enum Request {
     Assemble { text: Name },
     /// A DNA of at most `limit` bases that draws a picture: from 1 to 2^40.
     Picture { ppm: Name, limit: u64 },
+    /// What a prefix does to every DNA of a length.
+    Explain(ExplainWords),
     /// What a script shows of a run, forward and back.
     Rewind(RewindWords),
+}
+
+/// The words of `explain`.
+#[derive(Debug, Drop)]
+pub struct ExplainWords {
+    pub prefix: Name,
+    /// The bases of the DNA that is not known: from 0 to 2^40.
+    pub length: u64,
+    /// The most attempts: from 0 to 2^40.
+    pub attempts: u64,
+    /// The most bases that a DNA may have: from 1 to 2^40.
+    pub limit: u64,
 }
 
 /// The words of `rewind`.

@@ -67,6 +67,10 @@ fn words_ask(rt: HostRuntime) -> Result<(), Fail> {
             r#"Picture { ppm: Name { text: "p" }, limit: 67108864 }"#,
         ),
         (
+            "explain --attempts 1 --length 0 --prefix p --limit=2",
+            r#"Explain(ExplainWords { prefix: Name { text: "p" }, length: 0, attempts: 1, limit: 2 })"#,
+        ),
+        (
             "rewind --script s --dna a",
             r#"Rewind(RewindWords { dna: Name { text: "a" }, prefix: None, script: Name { text: "s" }, limit: 67108864 })"#,
         ),
@@ -128,6 +132,8 @@ fn other_words_are_refused(rt: HostRuntime) -> Result<(), Fail> {
         "assemble --text t --limit 1",
         "picture --limit 1",
         "picture --ppm p --limit 0",
+        "explain --prefix p --length 1",
+        "explain --prefix p --length 1099511627777 --attempts 1",
         "rewind --dna a",
         "rewind --dna a --script s --budget 1",
     ] {

@@ -17,6 +17,7 @@ pub(crate) enum Verb {
     Bench,
     Assemble,
     Picture,
+    Explain,
     Rewind,
 }
 
@@ -61,6 +62,13 @@ static ASSEMBLE: [VerbOption; 1] = [("text", Need::Required)];
 
 static PICTURE: [VerbOption; 2] = [("ppm", Need::Required), ("limit", Need::Optional)];
 
+static EXPLAIN: [VerbOption; 4] = [
+    ("prefix", Need::Required),
+    ("length", Need::Required),
+    ("attempts", Need::Required),
+    ("limit", Need::Optional),
+];
+
 static REWIND: [VerbOption; 4] = [
     ("dna", Need::Required),
     ("prefix", Need::Optional),
@@ -85,6 +93,7 @@ impl Verb {
             "bench" => Some(Verb::Bench),
             "assemble" => Some(Verb::Assemble),
             "picture" => Some(Verb::Picture),
+            "explain" => Some(Verb::Explain),
             "rewind" => Some(Verb::Rewind),
             _ => None,
         }
@@ -103,6 +112,7 @@ impl Verb {
             Verb::Bench => BENCH.as_slice(),
             Verb::Assemble => ASSEMBLE.as_slice(),
             Verb::Picture => PICTURE.as_slice(),
+            Verb::Explain => EXPLAIN.as_slice(),
             Verb::Rewind => REWIND.as_slice(),
         }
     }

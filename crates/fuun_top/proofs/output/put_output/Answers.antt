@@ -35,3 +35,6 @@ returns-in-Rewind-clause-wrote g c = rw c.in-Rewind.is c.put_rewound.ensures.wro
 
 pub returns-in-Rewind-clause-ticks : goal.returns-in-Rewind-clause-ticks
 returns-in-Rewind-clause-ticks g c = rw c.in-Rewind.is c.put_rewound.ensures.ticks
+
+pub returns-in-Explain-clause-wrote : goal.returns-in-Explain-clause-wrote
+returns-in-Explain-clause-wrote g c = rw c.in-Explain.is c.put_explained_prefix.ensures
