@@ -2,8 +2,6 @@
 #![tactic(auto)]
 
 mod bench;
-#[cfg(test)]
-mod fault_tests;
 mod files;
 mod inputs;
 pub mod laws;

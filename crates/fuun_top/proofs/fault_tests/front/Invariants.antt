@@ -1,4 +1,0 @@
-use Rattle.fuun_top.proofs.fault_tests.front.Given as goal
-
-abbrev pub ghosts-front_counted : goal.ghosts-expect
-ghosts-front_counted g a = record { name = a.blank.name; parts = a.blank.parts }
