@@ -12,3 +12,4 @@ pub mod EndLemmas
 pub mod CodeLemmas
 pub mod ReadableLemmas
 pub mod LineLemmas
+pub mod CommandLemmas

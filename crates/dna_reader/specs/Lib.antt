@@ -18,3 +18,4 @@ pub mod RnaLines
 pub mod Lending
 pub mod Codes
 pub mod CodeLaws
+pub mod CommandLaws

@@ -1,5 +1,6 @@
 //! What holds of the definitions. Each call does nothing: its clause is the law.
 ghost use Rattle.dna_reader.specs.CodeLaws.{NumberIsRead, PatternCodeIsRead, OnlyReadableIsRead, TemplateCodeIsRead, PairCodeIsRead};
+ghost use Rattle.dna_reader.specs.CommandLaws.{GivesCommands, LinesAreGood, LinesAreRead};
 ghost use Rattle.dna_reader.specs.ReadingLaws.{HasCutting, HasOneCutting, HasReading, HasOneReading, HasShortReadings, HasShortRna, PatternsAreBalanced, ConstantsAreLongest, ConstantsAreOne, NumeralByDigits};
 ghost use Rattle.dna_reader.specs.RnaLines.{PartIsFront};
 ghost use Rattle.dna_reader.specs.Tables.{pattern_table, template_table};
@@ -87,4 +88,16 @@ pub fn codes_worked()
 /// A writer of lines that stands within commands has written a front of their lines.
 pub fn lines_in_part()
     ensures { PartIsFront }
+{}
+
+/// A reading gives commands of at most seven bases.
+pub fn short_commands()
+    ensures pattern { GivesCommands pattern_table }
+    ensures template { GivesCommands template_table }
+{}
+
+/// The lines of commands are read as the same commands, and where each is of at most seven bases, no line is bad.
+pub fn lines_are_read()
+    ensures same { LinesAreRead }
+    ensures good { LinesAreGood }
 {}

@@ -7,3 +7,4 @@ pub mod Parts
 pub mod AttemptByAttempt
 pub mod RunTicks
 pub mod Worked
+pub mod Joined

@@ -1,6 +1,6 @@
 //! What holds of the definitions. Each call does nothing: its clause is the law.
 ghost use Rattle.exec_loop.specs.Attempt.{IsAttempt};
-ghost use Rattle.exec_loop.specs.Laws.{HasAttempt, HasOneAttempt, HasRun, HasOneRun, HasWeight, HasOneWeight, RunHasWeight, RunHasOneWeight};
+ghost use Rattle.exec_loop.specs.Laws.{HasAttempt, HasOneAttempt, HasRun, HasOneRun, HasWeight, HasOneWeight, RunHasWeight, RunHasOneWeight, RunGoesOn, RunGivesCommands, RunStaysWithin};
 ghost use Rattle.exec_loop.specs.Worked.{matching_dna, matching_attempt, failing_dna, failing_attempt, finishing_dna, finishing_attempt};
 
 /// Under every limit each DNA has exactly one attempt.
@@ -13,6 +13,17 @@ pub fn one_attempt()
 pub fn one_run()
     ensures made { HasRun }
     ensures once { HasOneRun }
+{}
+
+/// A run that spent its budget goes on from the DNA that it left.
+pub fn runs_join()
+    ensures { RunGoesOn }
+{}
+
+/// What a run leaves: its RNA is of commands of at most seven bases, and its DNA is within the limit where the first one is.
+pub fn runs_are_bounded()
+    ensures rna { RunGivesCommands }
+    ensures dna { RunStaysWithin }
 {}
 
 /// Each attempt has exactly one weight.
