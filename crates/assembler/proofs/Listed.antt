@@ -30,7 +30,7 @@ use Rattle.assembler.proofs.AnswerLemmas.{texts_are_read}
 
 -- a listing shows the lines
 
-stands_of : (d rest : List Base) (pair : Pair) → ReadsPair d pair.0 pair.1 rest → PairStands d pair.0 pair.1 rest
+pub stands_of : (d rest : List Base) (pair : Pair) → ReadsPair d pair.0 pair.1 rest → PairStands d pair.0 pair.1 rest
 stands_of d rest pair r = record { pattern_rna = []; template_rna = []; middle = r.middle; reads_pattern = r.reads_pattern; reads_template = r.reads_template }
 
 line_shown : (len place : ℕ) (line : List ℕ) (pair : Pair) (left : List Base) → IsPair line pair.0 pair.1 → place + length left ≡ len
@@ -66,10 +66,10 @@ listing_shows_lines all pairs count texts = lists_lines (length (pairs_code pair
 
 -- lines without line feeds
 
-abbrev HasNoFeed : List ℕ → Type 0
+abbrev pub HasNoFeed : List ℕ → Type 0
 HasNoFeed bytes = AllByRecursion (λ byte. byte == 10 ≡ false) bytes
 
-both_clear : (a b : List ℕ) → HasNoFeed a → HasNoFeed b → HasNoFeed (a ++ b)
+pub both_clear : (a b : List ℕ) → HasNoFeed a → HasNoFeed b → HasNoFeed (a ++ b)
 both_clear [] b x y = y
 both_clear (byte ∷ a) b x y = (x.0, both_clear a b x.1 y)
 
@@ -107,12 +107,12 @@ items_clear : {X : Type 0} (text : X → List ℕ) (Small : X → Type 0) → ((
 items_clear text Small clear [] small = tt
 items_clear text Small clear (x ∷ xs) small = both_clear (text x) (flat_map text xs) (clear x small.0) (items_clear text Small clear xs small.1)
 
-pair_clear : (pair : Pair) → IsSmallPair pair → HasNoFeed (pair_text pair.0 pair.1)
+pub pair_clear : (pair : Pair) → IsSmallPair pair → HasNoFeed (pair_text pair.0 pair.1)
 pair_clear pair small =
     both_clear (pattern_text pair.0) (codes " -> " ++ template_text pair.1) (items_clear pattern_item_text HasSmallSkip pattern_item_clear pair.0 small.0)
     (refl, (refl, (refl, (refl, items_clear template_item_text HasSmallNumbers template_item_clear pair.1 small.1))))
 
-line_of : (line rest : List ℕ) → HasNoFeed line → lines (line ++ (10 ∷ rest)) ≡ line ∷ lines rest
+pub line_of : (line rest : List ℕ) → HasNoFeed line → lines (line ++ (10 ∷ rest)) ≡ line ∷ lines rest
 line_of [] rest clear = refl
 line_of (byte ∷ line) rest clear = rw clear.0 (ap (before_lines byte) (line_of line rest clear.1))
 

@@ -3,6 +3,7 @@ pub mod Filled
 pub mod Along
 pub mod FilledAttempts
 pub mod FilledRuns
+pub mod CodedAttempts
 pub mod ByPlaces
 pub mod ByItems
 pub mod Putting

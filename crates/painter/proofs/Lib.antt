@@ -1,3 +1,4 @@
 pub mod Drawings
 pub mod Outcomes
 pub mod Pictures
+pub mod PixelChannels

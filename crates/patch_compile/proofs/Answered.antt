@@ -1,9 +1,8 @@
 -- What a patch file compiles to, by what is known of its rows.
-use Rattle.std.proofs.Common.{◌≡◌, ℕ, ◌<◌, ◌≤◌, Result, Ok, Err, List, length, refl, sym, ap, ◌∙◌}
+use Rattle.std.proofs.Common.{◌≡◌, ℕ, ◌<◌, ◌≤◌, Ok, Err, length, refl, ap, ◌∙◌}
 use Rattle.std.proofs.lemmas.Bool.{lt-ltb, le-ltb}
 use Rattle.patch_text.specs.Contents.{Contents}
 use Rattle.patch_text.specs.Lengths.{AllFit, IsOutside}
-use Rattle.patch_text.specs.Outside.{outside}
 use Rattle.patch_text.proofs.Outsides.{fit_has_no_outside, outside_is_one}
 use Rattle.patch_compile.specs.declared.compiling.CompileError.{CompileError}
 use Rattle.patch_compile.specs.declared.compiling.CompileError.TheVariants.{Outside, TooLong, NoMemory}

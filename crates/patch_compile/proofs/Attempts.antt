@@ -65,13 +65,13 @@ one_skip n = balanced_plain (Skip n ∷ []) refl refl
 
 -- edits
 
-edit_readable : (n cut : ℕ) → IsReadable (edit_pattern n cut)
+pub edit_readable : (n cut : ℕ) → IsReadable (edit_pattern n cut)
 edit_readable n cut = record {
   balanced = balanced-append (GroupStart ∷ Skip n ∷ GroupStop ∷ []) (Skip cut ∷ []) (balanced_group (Skip n ∷ []) (one_skip n)) (one_skip cut);
   apart = refl;
 }
 
-edit_groups : (n cut stop : ℕ) → slice_get (edit_pattern n cut) stop ≡ Some GroupStop → IsGroup (edit_pattern n cut) (0 ∷ 0 ∷ n ∷ n ∷ (n + cut) ∷ []) ((0, n) ∷ []) stop
+pub edit_groups : (n cut stop : ℕ) → slice_get (edit_pattern n cut) stop ≡ Some GroupStop → IsGroup (edit_pattern n cut) (0 ∷ 0 ∷ n ∷ n ∷ (n + cut) ∷ []) ((0, n) ∷ []) stop
 edit_groups n cut zero e = absurd (let h : GroupStart ≡ GroupStop = cc in cc)
 edit_groups n cut (suc zero) e = absurd (cc)
 edit_groups n cut (suc (suc zero)) e = (0, record { before = omega arith; starts = refl; ends = refl; between = one_skip n }, refl)
@@ -106,7 +106,7 @@ edit_steps w0 w1 v put n cut limit first second within =
 
 -- ranges
 
-range_readable : (a b c : ℕ) → IsReadable (range_pattern a b c)
+pub range_readable : (a b c : ℕ) → IsReadable (range_pattern a b c)
 range_readable a b c =
     let one : (n : ℕ) → IsBalanced (GroupStart ∷ Skip n ∷ GroupStop ∷ []) = λ n. balanced_group (Skip n ∷ []) (one_skip n) in
     record {
@@ -121,7 +121,7 @@ range_places a b c = 0 ∷ 0 ∷ a ∷ a ∷ a ∷ (a + b) ∷ (a + b) ∷ (a + 
 abbrev range_ranges : ℕ → ℕ → ℕ → List (ℕ × ℕ)
 range_ranges a b c = (0, a) ∷ (a, a + b) ∷ (a + b, a + b + c) ∷ []
 
-range_groups : (a b c stop : ℕ) → slice_get (range_pattern a b c) stop ≡ Some GroupStop → IsGroup (range_pattern a b c) (range_places a b c) (range_ranges a b c) stop
+pub range_groups : (a b c stop : ℕ) → slice_get (range_pattern a b c) stop ≡ Some GroupStop → IsGroup (range_pattern a b c) (range_places a b c) (range_ranges a b c) stop
 range_groups a b c zero e = absurd (let h : GroupStart ≡ GroupStop = cc in cc)
 range_groups a b c (suc zero) e = absurd (cc)
 range_groups a b c (suc (suc zero)) e = (0, record { before = omega arith; starts = refl; ends = refl; between = one_skip a }, refl)

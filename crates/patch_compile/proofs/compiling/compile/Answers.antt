@@ -3,7 +3,6 @@ use Rattle.std.proofs.lemmas.List.{reverse-reverse}
 use Rattle.fuun_base.specs.declared.letters.Base.{Base}
 use Rattle.patch_text.specs.Lengths.{AllFit}
 use Rattle.patch_text.proofs.Bounds.{within}
-use Rattle.patch_compile.specs.Compiled.{compiled}
 use Rattle.patch_compile.specs.declared.compiling.CompileError.TheVariants.{Outside, TooLong}
 use Rattle.patch_compile.specs.Code.{prefix}
 use Rattle.patch_compile.specs.Law.{CarriesOut}
