@@ -9,3 +9,11 @@ pub mod ReadingLemmas
 pub mod TopLemmas
 pub mod AskLemmas
 pub mod StepLemmas
+pub mod ReadBack
+pub mod ChainedRuns
+pub mod ChainedDrawing
+pub mod ChainedRewind
+pub mod ChainedPatches
+pub mod ExplainedPatches
+pub mod ChainedListing
+pub mod ChainedPicture

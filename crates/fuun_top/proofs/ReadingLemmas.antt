@@ -1,5 +1,5 @@
 -- A reading that was refused.
-use Rattle.std.proofs.Common.{◌≡◌, ◌⊎◌, inl, inr, ℕ, Option, Some, None, Result, Ok, Err, List, IfSome, subst, arith, ◌∙◌}
+use Rattle.std.proofs.Common.{◌≡◌, ◌⊎◌, inl, inr, ℕ, Some, None, Result, Ok, Err, List, IfSome, subst, arith, ◌∙◌}
 use Rattle.fuun_top.specs.declared.status.Status.{Status}
 use Rattle.fuun_top.specs.declared.status.Status.TheVariants.{ReadFault, NoMemory}
 use Rattle.fuun_top.specs.Reading.{Files, Reading, then_read}

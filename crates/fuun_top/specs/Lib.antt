@@ -11,3 +11,6 @@ pub mod ReadingRoom
 pub mod WritingRoom
 pub mod OutputLaws
 pub mod Steps
+pub mod Chaining
+pub mod RunChains
+pub mod MadeChains
