@@ -1,5 +1,5 @@
 // Files of the machine's disk. No clause says what one holds.
-ghost use Rattle.std.specs.Prelude.{true, None, ◌≤◌, length, IfOk};
+ghost use Rattle.std.specs.Prelude.{◌≡◌, ◌≤◌, true, None, length, IfOk};
 
 use fuun_io::{Failed, Folder};
 use std::fs;
@@ -18,7 +18,7 @@ struct Opened<T: Drop> {
 
 /// Files by their paths, each opened at its first byte and read on from call to call. It tells no contents.
 #[derive(Drop)]
-pub struct DiskFolder<'a, R: Files> {
+pub(crate) struct DiskFolder<'a, R: Files> {
     rt: &'a R,
     opened: Option<Opened<R::File>>,
     faults: u64,
@@ -26,7 +26,11 @@ pub struct DiskFolder<'a, R: Files> {
 }
 
 impl<'a, R: Files> DiskFolder<'a, R> {
-    pub fn new(rt: &'a R) -> Self {
+    /// No file is open; no fault was met and no byte given.
+    pub fn new(rt: &'a R) -> Self
+        ensures faults { result.faults ≡ 0 }
+        ensures given { result.given ≡ 0 }
+    {
         DiskFolder {
             rt,
             opened: None,

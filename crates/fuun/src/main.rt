@@ -1,7 +1,7 @@
 //! The program: words from the command line, files from the disk, output to standard output.
 #![tactic(auto)]
 
-ghost use Rattle.std.specs.Prelude.{◌≡◌, ◌<◌};
+ghost use Rattle.std.specs.Prelude.{◌≡◌, ◌⊎◌, ◌<◌};
 
 mod disk;
 mod stream;
@@ -51,7 +51,9 @@ fn run_counted<L: Ledger>(rt: &HostRuntime, words: &[String], blank: Blank) -> S
 }
 
 /// The status, where what was kept back could be written.
-fn flushed<W: Write + Drop>(status: Status, out: &mut StreamSink<W>) -> Status {
+fn flushed<W: Write + Drop>(status: Status, out: &mut StreamSink<W>) -> Status
+    ensures { (result ≡ status) ⊎ (result ≡ Status.WriteFault) }
+{
     match out.flush() {
         Ok(()) => status,
         Err(_) => Status::WriteFault,

@@ -1,23 +1,28 @@
 // Standard output and standard error. No clause says what they take.
-ghost use Rattle.std.specs.Prelude.{None};
+ghost use Rattle.std.specs.Prelude.{◌≡◌, None};
 
 use fuun_io::{Failed, Sink};
 use std::io::{self, Write};
 
 /// Bytes to a writer. It tells none of them.
 #[derive(Drop)]
-pub struct StreamSink<W: Write + Drop> {
+pub(crate) struct StreamSink<W: Write + Drop> {
     writer: W,
     faults: u64,
 }
 
 impl<W: Write + Drop> StreamSink<W> {
-    pub fn new(writer: W) -> Self {
+    /// No fault was met.
+    pub fn new(writer: W) -> Self
+        ensures { result.faults ≡ 0 }
+    {
         StreamSink { writer, faults: 0 }
     }
 
     /// Hands on what the writer keeps back.
-    pub fn flush(&mut self) -> io::Result<()> {
+    pub fn flush(&mut self) -> io::Result<()>
+        ensures { self.new.faults ≡ self.old.faults }
+    {
         self.writer.flush()
     }
 

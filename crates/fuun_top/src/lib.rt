@@ -2,6 +2,10 @@
 #![tactic(auto)]
 
 mod bench;
+#[cfg(test)]
+mod chain_tests;
+#[cfg(test)]
+mod fault_tests;
 mod files;
 mod inputs;
 pub mod laws;

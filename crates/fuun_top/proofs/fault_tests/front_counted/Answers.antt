@@ -1,0 +1,6 @@
+use Rattle.std.proofs.Common.{true, refl}
+use Rattle.fuun_top.proofs.AskLemmas.{may_ask_all}
+use Rattle.fuun_top.proofs.fault_tests.front_counted.Goals as goal
+
+pub fuun-answer-requires : goal.fuun-answer-requires
+fuun-answer-requires g c = may_ask_all (λ name. true) _ (λ name. refl)
