@@ -18,3 +18,4 @@ pub mod CellRuns
 pub mod Explanations
 pub mod RangesWithin
 pub mod EveryTarget
+pub mod FitLemmas

@@ -9,3 +9,4 @@ pub mod Passing
 pub mod Making
 pub mod Lines
 pub mod Answers
+pub mod Fitting

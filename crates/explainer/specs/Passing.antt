@@ -28,7 +28,7 @@ FitsSo c b Hole = (place : ℕ) × (c ≡ cell.Target place)
 -- how a list of bases stands at a place of cells
 abbrev pub StandsSo : List Base → List Cell → ℕ → Window → Type 0
 StandsSo s z place Sure = IsSure s z place
-StandsSo s z place Out = IsOut s z place
+StandsSo s z place (Out at) = (out : IsOut s z place) × (out.at ≡ at)
 StandsSo s z place Unsure = IsUnsure s z place
 
 -- what an item does at a place of cells

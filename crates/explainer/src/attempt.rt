@@ -6,16 +6,16 @@ ghost use Rattle.explainer.specs.Making.{Comes, ComesOfItems};
 use crate::matching::{CellMatch, match_cells};
 use crate::reading::{Items, read_front};
 use crate::replacing::put;
+use cell_rope::CellRope;
 use fuun_base::{CommandList, NoMemory, Steps};
 use std::alloc::Global;
 use std::sync::ledger::Ledger;
-use sym_strand::SymDna;
 
 /// What comes of an attempt.
 #[derive(Drop)]
 pub(crate) enum Next {
     /// The next cells.
-    Cells(SymDna),
+    Cells(CellRope),
     TooLong,
     Finished,
     Depends,
@@ -24,7 +24,7 @@ pub(crate) enum Next {
 /// Makes an attempt on cells. Its RNA is added to the commands.
 pub(crate) fn step<L: Ledger>(
     alloc: Global,
-    dna: &SymDna,
+    dna: &CellRope,
     limit: u64,
     rna: &mut CommandList,
     steps: &mut Steps<L>,
@@ -39,7 +39,7 @@ pub(crate) fn step<L: Ledger>(
     }
 }
 
-fn run_out(dna: &SymDna) -> Next
+fn run_out(dna: &CellRope) -> Next
     ensures { result ≡ (if all_known dna.now then Next.Finished else Next.Depends) }
 {
     if dna.all_known() {
@@ -52,7 +52,7 @@ fn run_out(dna: &SymDna) -> Next
 /// Matches the items on the cells behind them, and makes the next cells.
 fn rewrite<L: Ledger>(
     alloc: Global,
-    dna: &SymDna,
+    dna: &CellRope,
     limit: u64,
     items: &Items,
     steps: &mut Steps<L>,
@@ -63,7 +63,7 @@ fn rewrite<L: Ledger>(
     requires within { length dna.now ≤ limit }
     ensures { IfOk result (ComesOfItems (drop items.now.place dna.now) items.now.pattern items.now.template limit) }
 {
-    let rest = dna.sub(items.place, dna.len())?;
+    let rest = dna.sub(items.place, dna.len(), steps)?;
     match match_cells(alloc, &rest, items.pattern.as_slice())? {
         CellMatch::Matched { stop, groups } => put(
             alloc,

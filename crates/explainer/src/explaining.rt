@@ -5,11 +5,11 @@ ghost use Rattle.explainer.specs.Run.{Explains, EndsSo};
 
 use crate::attempt::{Next, step};
 use crate::{ExplainError, Explained};
+use cell_rope::CellRope;
 use fuun_base::{Base, CommandList, NoMemory, Steps};
 use std::alloc::Global;
 use std::marker::Brand;
 use std::sync::ledger::{Blank, Ledger};
-use sym_strand::SymDna;
 
 /// Says what a prefix does to every DNA of so many bases, of which nothing else is known: how the machine ends, after how
 /// many attempts, with which RNA, and what its last DNA is. It is not told where an attempt depends on the target.
@@ -51,29 +51,34 @@ fn explain_counted<L: Ledger>(
     ensures too_long { (attempt : ℕ) → result ≡ Err (ExplainError.TooLong attempt) → EndsSo prefix.now target attempts limit (run.TooLong attempt) }
 {
     let mut steps = Steps::<L>::new(blank);
-    let mut dna = SymDna::start(alloc, prefix, target)?;
+    let mut dna = CellRope::start(alloc, prefix, target, &mut steps)?;
     let mut rna = CommandList::new(alloc);
     for attempt in 0..attempts {
         match step(alloc, &dna, limit, &mut rna, &mut steps)? {
             Next::Cells(next) => dna = next,
             Next::TooLong => return Err(ExplainError::TooLong { attempt }),
-            Next::Finished => return Ok(explained(true, attempt + 1, rna, dna)),
+            Next::Finished => return Ok(explained(true, attempt + 1, rna, &dna)?),
             Next::Depends => return Err(ExplainError::Depends { attempt }),
         }
     }
-    Ok(explained(false, attempts, rna, dna))
+    Ok(explained(false, attempts, rna, &dna)?)
 }
 
-fn explained(finished: bool, attempts: u64, rna: CommandList, dna: SymDna) -> Explained
-    ensures finished { result.finished ≡ finished }
-    ensures attempts { result.attempts ≡ attempts }
-    ensures rna { result.rna ≡ rna }
-    ensures segs { StandFor result.segs dna }
+fn explained(
+    finished: bool,
+    attempts: u64,
+    rna: CommandList,
+    dna: &CellRope,
+) -> Result<Explained, NoMemory>
+    ensures finished { IfOk result (λ found. found.finished ≡ finished) }
+    ensures attempts { IfOk result (λ found. found.attempts ≡ attempts) }
+    ensures rna { IfOk result (λ found. found.rna ≡ rna) }
+    ensures segs { IfOk result (λ found. StandFor found.segs dna.now) }
 {
-    Explained {
+    Ok(Explained {
         finished,
         attempts,
         rna,
-        segs: dna.into_segs(),
-    }
+        segs: dna.segs()?,
+    })
 }

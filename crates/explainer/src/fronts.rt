@@ -6,17 +6,18 @@ ghost use Rattle.sym_strand.specs.declared.cells.Cell.TheVariants.{Known};
 ghost use Rattle.explainer.specs.Making.{cells_of, PutsWhere};
 ghost use Rattle.explainer.specs.Replacement.{text_of, put_by, quotes_target};
 
+use cell_rope::CellRope;
 use dna_items::TplItem;
-use fuun_base::{Base, NoMemory, Steps, Tally, asnat_into};
+use fuun_base::{Base, NoMemory, Steps, asnat_into};
+use rope_strand::RopeStrand;
 use std::alloc::Global;
 use std::sync::ledger::Ledger;
-use strand::{FlatStrand, Strand};
-use sym_strand::SymDna;
+use strand::Strand;
 
 /// What stands of the next cells: some that are done, and the bases behind them that wait, so that they become one segment.
 #[derive(Drop)]
 pub(crate) struct Front {
-    pub(crate) done: SymDna,
+    pub(crate) done: CellRope,
     pub(crate) waiting: Vec<Base>,
 }
 
@@ -25,7 +26,7 @@ impl Front {
         ensures { IfOk result (λ front. cells_of front ≡ []) }
     {
         Ok(Front {
-            done: SymDna::start(alloc, &[], 0)?,
+            done: CellRope::empty(alloc)?,
             waiting: Vec::new(alloc),
         })
     }
@@ -39,22 +40,29 @@ impl Front {
     }
 
     /// The cells, the waiting bases with them.
-    pub(crate) fn finished(self) -> Result<SymDna, NoMemory>
+    pub(crate) fn finished<L: Ledger>(
+        self,
+        alloc: Global,
+        steps: &mut Steps<L>,
+    ) -> Result<CellRope, NoMemory>
         requires { length (cells_of self) ≤ 2 ^ 41 }
         ensures { IfOk result (λ dna. dna ≡ cells_of self) }
     {
         let mut front = self;
-        front.settle()?;
+        front.settle(alloc, steps)?;
         Ok(front.done)
     }
 
     // Puts the waiting bases to the others.
-    fn settle(&mut self) -> Result<(), NoMemory>
+    fn settle<L: Ledger>(&mut self, alloc: Global, steps: &mut Steps<L>) -> Result<(), NoMemory>
         requires { length (cells_of self.old) ≤ 2 ^ 41 }
         ensures cells { OnOk result (self.new.done ≡ cells_of self.old) }
         ensures none { OnOk result (self.new.waiting.items ≡ []) }
     {
-        self.done.push_known(self.waiting.as_slice())?;
+        let _done = self.done.len();
+        let bases = RopeStrand::build(alloc, self.waiting.as_slice(), steps)?;
+        let more = CellRope::of_known(alloc, bases)?;
+        self.done = CellRope::join(&self.done, &more, steps)?;
         self.waiting.clear();
         Ok(())
     }
@@ -63,7 +71,7 @@ impl Front {
     pub(crate) fn put<L: Ledger>(
         &mut self,
         alloc: Global,
-        texts: &[SymDna],
+        texts: &[CellRope],
         item: TplItem,
         room: u64,
         steps: &mut Steps<L>,
@@ -76,7 +84,7 @@ impl Front {
             TplItem::Base(base) => self.put_bases(&[base], room),
             TplItem::Group { n, level } => {
                 if level == 0 {
-                    self.put_group(texts, n, room)
+                    self.put_group(alloc, texts, n, room, steps)
                 } else {
                     self.put_quoted(alloc, texts, n, level, room, steps)
                 }
@@ -95,35 +103,45 @@ impl Front {
         Ok(true)
     }
 
-    fn put_group(&mut self, texts: &[SymDna], n: u64, room: u64) -> Result<bool, NoMemory>
+    fn put_group<L: Ledger>(
+        &mut self,
+        alloc: Global,
+        texts: &[CellRope],
+        n: u64,
+        room: u64,
+        steps: &mut Steps<L>,
+    ) -> Result<bool, NoMemory>
         requires { length (cells_of self.old) + room ≤ 2 ^ 40 }
         ensures { IfOk result (λ fits. PutsWhere fits room (cells_of self.old) (cells_of self.new) (text_of texts.now n)) }
     {
         match text_at(texts, n) {
             None => Ok(true),
-            Some(text) => self.put_cells(text, room),
+            Some(text) => self.put_cells(alloc, text, room, steps),
         }
     }
 
-    fn put_cells(&mut self, text: &SymDna, room: u64) -> Result<bool, NoMemory>
+    fn put_cells<L: Ledger>(
+        &mut self,
+        alloc: Global,
+        text: &CellRope,
+        room: u64,
+        steps: &mut Steps<L>,
+    ) -> Result<bool, NoMemory>
         requires { length (cells_of self.old) + room ≤ 2 ^ 40 }
         ensures { IfOk result (λ fits. PutsWhere fits room (cells_of self.old) (cells_of self.new) text.now) }
     {
         if text.len() > room {
             return Ok(false);
         }
-        if text.all_known() {
-            return self.put_bases(text.known_front()?.as_slice(), room);
-        }
-        self.settle()?;
-        self.done.append(text)?;
+        self.settle(alloc, steps)?;
+        self.done = CellRope::join(&self.done, text, steps)?;
         Ok(true)
     }
 
     fn put_quoted<L: Ledger>(
         &mut self,
         alloc: Global,
-        texts: &[SymDna],
+        texts: &[CellRope],
         n: u64,
         level: u64,
         room: u64,
@@ -135,9 +153,12 @@ impl Front {
     {
         match text_at(texts, n) {
             None => self.put_bases(&[], room),
-            Some(text) => match quoted(alloc, text, level, room, steps)? {
+            Some(text) => match quoted(text, level, room, steps)? {
                 None => Ok(false),
-                Some(bases) => self.put_bases(bases.as_slice(), room),
+                Some(bases) => {
+                    let bases = CellRope::of_known(alloc, bases)?;
+                    self.put_cells(alloc, &bases, room, steps)
+                }
             },
         }
     }
@@ -145,7 +166,7 @@ impl Front {
     fn put_len(
         &mut self,
         alloc: Global,
-        texts: &[SymDna],
+        texts: &[CellRope],
         n: u64,
         room: u64,
     ) -> Result<bool, NoMemory>
@@ -158,13 +179,13 @@ impl Front {
     }
 }
 
-fn text_at(texts: &[SymDna], n: u64) -> Option<&SymDna>
+fn text_at(texts: &[CellRope], n: u64) -> Option<&CellRope>
     ensures { option_copied result ≡ slice_get texts.now n }
 {
     texts.get(n as usize)
 }
 
-fn text_len(texts: &[SymDna], n: u64) -> u64
+fn text_len(texts: &[CellRope], n: u64) -> u64
     ensures { result ≡ length (text_of texts.now n) }
 {
     match texts.get(n as usize) {
@@ -175,22 +196,21 @@ fn text_len(texts: &[SymDna], n: u64) -> u64
 
 // The bases before the first place of the target, quoted so often: None where they are more than the room.
 fn quoted<L: Ledger>(
-    alloc: Global,
-    text: &SymDna,
+    text: &CellRope,
     level: u64,
     room: u64,
     steps: &mut Steps<L>,
-) -> Result<Option<FlatStrand>, NoMemory>
+) -> Result<Option<RopeStrand>, NoMemory>
     requires { room ≤ 2 ^ 40 }
     ensures { IfOk result (λ found. MatchOption found
         (room < length (protect level (known_front text.now)))
-        (λ bases. bases ≡ protect level (known_front text.now))) }
+        (λ front. front.bases ≡ protect level (known_front text.now))) }
 {
     let _len = text.len();
-    let bases = text.known_front()?;
-    let Some(_len) = Tally::of(bases.as_slice()).quoted_len(level, room) else {
+    let front = text.known_front(steps)?;
+    let len = front.len();
+    let Some(_len) = front.tally(0, len).quoted_len(level, room) else {
         return Ok(None);
     };
-    let bases = FlatStrand::build(alloc, bases.as_slice(), steps)?;
-    Ok(Some(bases.quoted(0, bases.len(), level, steps)?))
+    Ok(Some(front.quoted(0, len, level, steps)?))
 }

@@ -4,6 +4,7 @@
 mod attempt;
 mod explained;
 mod explaining;
+mod fitting;
 mod fronts;
 pub mod laws;
 mod marks;

@@ -4,11 +4,11 @@ ghost use Rattle.explainer.specs.Passing.{MatchesSo};
 
 use crate::marks::Marks;
 use crate::passing::{Passing, pass};
+use cell_rope::CellRope;
 use dna_items::PatItem;
 use fuun_base::NoMemory;
 use matcher::GroupList;
 use std::alloc::Global;
-use sym_strand::SymDna;
 
 /// How the items of a pattern go through cells.
 #[derive(Drop)]
@@ -22,7 +22,7 @@ pub(crate) enum CellMatch {
 /// Goes through the items, up to the first that fails or depends on the target.
 pub(crate) fn match_cells(
     alloc: Global,
-    dna: &SymDna,
+    dna: &CellRope,
     items: &[PatItem],
 ) -> Result<CellMatch, NoMemory>
     requires { IsBalanced items.now }
@@ -31,7 +31,7 @@ pub(crate) fn match_cells(
     let mut marks = Marks::new(alloc);
     let mut at = 0;
     for item in items {
-        match pass(dna, at, item) {
+        match pass(alloc, dna, at, item)? {
             Passing::To(place) => {
                 marks.mark(item, at)?;
                 at = place;

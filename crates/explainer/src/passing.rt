@@ -1,10 +1,11 @@
-ghost use Rattle.std.specs.Prelude.{◌≡◌, ◌≤◌, length};
+ghost use Rattle.std.specs.Prelude.{◌≡◌, ◌≤◌, length, IfOk};
 ghost use Rattle.explainer.specs.Passing.{PassesSo};
 
 use crate::searching::{Fit, fit_of, search};
+use cell_rope::CellRope;
 use dna_items::PatItem;
-use fuun_base::Base;
-use sym_strand::SymDna;
+use fuun_base::{Base, NoMemory};
+use std::alloc::Global;
 
 /// What an item of a pattern does at a place of cells.
 #[derive(Clone, Copy)]
@@ -16,20 +17,25 @@ pub(crate) enum Passing {
     Depends,
 }
 
-pub(crate) fn pass(dna: &SymDna, at: u64, item: &PatItem) -> Passing
+pub(crate) fn pass(
+    alloc: Global,
+    dna: &CellRope,
+    at: u64,
+    item: &PatItem,
+) -> Result<Passing, NoMemory>
     requires { at ≤ length dna.now }
-    ensures { PassesSo dna.now item.now at result }
+    ensures { IfOk result (PassesSo dna.now item.now at) }
 {
     match item {
-        PatItem::Base(base) => pass_base(dna, at, *base),
-        PatItem::Skip(n) => skip(dna, at, *n),
-        PatItem::Search(needle) => search(dna, at, needle.as_slice()),
-        PatItem::GroupStart => Passing::To(at),
-        PatItem::GroupStop => Passing::To(at),
+        PatItem::Base(base) => Ok(pass_base(dna, at, *base)),
+        PatItem::Skip(n) => Ok(skip(dna, at, *n)),
+        PatItem::Search(needle) => search(alloc, dna, at, needle.as_slice()),
+        PatItem::GroupStart => Ok(Passing::To(at)),
+        PatItem::GroupStop => Ok(Passing::To(at)),
     }
 }
 
-fn pass_base(dna: &SymDna, at: u64, base: Base) -> Passing
+fn pass_base(dna: &CellRope, at: u64, base: Base) -> Passing
     requires { at ≤ length dna.now }
     ensures { PassesSo dna.now (PatItem.Base base) at result }
 {
@@ -44,7 +50,7 @@ fn pass_base(dna: &SymDna, at: u64, base: Base) -> Passing
     }
 }
 
-fn skip(dna: &SymDna, at: u64, n: u64) -> Passing
+fn skip(dna: &CellRope, at: u64, n: u64) -> Passing
     requires { at ≤ length dna.now }
     ensures { PassesSo dna.now (PatItem.Skip n) at result }
 {

@@ -6,13 +6,14 @@ ghost use Rattle.dna_reader.specs.Taking.{RanOutTaking, TemplateIsRead};
 ghost use Rattle.exec_loop.specs.Readings.{BothAreRead, OneRanOut};
 ghost use Rattle.sym_strand.specs.Cells.{known_front};
 
+use cell_rope::CellRope;
 use dna_items::{PatList, TplList};
 use dna_reader::{ReadingError, read_pattern, read_template};
 use fuun_base::{CommandList, NoMemory, Steps};
+use rope_strand::RopeStrand;
 use std::alloc::Global;
 use std::sync::ledger::Ledger;
-use strand::{FlatStrand, Strand};
-use sym_strand::SymDna;
+use strand::Strand;
 
 /// A pattern and a template, and the place behind the template.
 #[derive(Drop)]
@@ -26,7 +27,7 @@ pub(crate) struct Items {
 /// Their RNA is added to the commands.
 pub(crate) fn read_front<L: Ledger>(
     alloc: Global,
-    dna: &SymDna,
+    dna: &CellRope,
     rna: &mut CommandList,
     steps: &mut Steps<L>,
 ) -> Result<Option<Items>, NoMemory>
@@ -39,23 +40,22 @@ pub(crate) fn read_front<L: Ledger>(
 {
     let _len = dna.len();
     let _taken = rna.len();
-    let front = dna.known_front()?;
-    let front = FlatStrand::build(alloc, front.as_slice(), steps)?;
+    let front = dna.known_front(steps)?;
     read_both(alloc, &front, rna)
 }
 
 fn read_both(
     alloc: Global,
-    front: &FlatStrand,
+    front: &RopeStrand,
     rna: &mut CommandList,
 ) -> Result<Option<Items>, NoMemory>
     requires { length rna.old ≤ 2 ^ 64 }
     ensures read { IfOk result (λ read. MatchOption read
-        (OneRanOut Appended rna.old rna.new front.now)
-        (λ items. BothAreRead Appended rna.old rna.new front.now items.pattern items.template items.place)) }
+        (OneRanOut Appended rna.old rna.new front.now.bases)
+        (λ items. BothAreRead Appended rna.old rna.new front.now.bases items.pattern items.template items.place)) }
     ensures balanced { IfOk result (λ read. MatchOption read (Unit {0}) (λ items. IsBalanced items.pattern)) }
-    ensures within { IfOk result (λ read. MatchOption read (Unit {0}) (λ items. items.place ≤ length front.now)) }
-    ensures few { IfOk result (λ read. MatchOption read (Unit {0}) (λ items. length items.pattern ≤ length front.now)) }
+    ensures within { IfOk result (λ read. MatchOption read (Unit {0}) (λ items. items.place ≤ length front.now.bases)) }
+    ensures few { IfOk result (λ read. MatchOption read (Unit {0}) (λ items. length items.pattern ≤ length front.now.bases)) }
 {
     let _len = front.len();
     match read_pattern(alloc, front, 0, rna) {
@@ -68,18 +68,18 @@ fn read_both(
 
 fn read_rest(
     alloc: Global,
-    front: &FlatStrand,
+    front: &RopeStrand,
     pattern: PatList,
     middle: u64,
     rna: &mut CommandList,
 ) -> Result<Option<Items>, NoMemory>
-    requires middle { middle ≤ length front.now }
+    requires middle { middle ≤ length front.now.bases }
     requires room { length rna.old ≤ 2 ^ 65 }
     ensures read { IfOk result (λ read. MatchOption read
-        (RanOutTaking ReadsTemplate Appended rna.old rna.new (drop middle front.now))
-        (λ items. TemplateIsRead Appended rna.old rna.new front.now middle items.template items.place)) }
+        (RanOutTaking ReadsTemplate Appended rna.old rna.new (drop middle front.now.bases))
+        (λ items. TemplateIsRead Appended rna.old rna.new front.now.bases middle items.template items.place)) }
     ensures pattern { IfOk result (λ read. MatchOption read (Unit {0}) (λ items. items.pattern ≡ pattern)) }
-    ensures within { IfOk result (λ read. MatchOption read (Unit {0}) (λ items. items.place ≤ length front.now)) }
+    ensures within { IfOk result (λ read. MatchOption read (Unit {0}) (λ items. items.place ≤ length front.now.bases)) }
 {
     match read_template(alloc, front, middle, rna) {
         Ok((template, place)) => Ok(Some(Items {

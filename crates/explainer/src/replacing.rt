@@ -6,16 +6,16 @@ ghost use Rattle.explainer.specs.Replacement.{texts_of, depends_on_target};
 use crate::attempt::Next;
 use crate::fronts::Front;
 use crate::texts::{depends, texts};
+use cell_rope::CellRope;
 use dna_items::TplItem;
 use fuun_base::{NoMemory, Steps};
 use std::alloc::Global;
 use std::sync::ledger::Ledger;
-use sym_strand::SymDna;
 
 /// What comes of a match: whether the template depends on the target is judged before any length.
 pub(crate) fn put<L: Ledger>(
     alloc: Global,
-    dna: &SymDna,
+    dna: &CellRope,
     items: &[TplItem],
     groups: &[(u64, u64)],
     stop: u64,
@@ -28,11 +28,11 @@ pub(crate) fn put<L: Ledger>(
     requires within { length dna.now ≤ limit }
     ensures { IfOk result (PutsSo (texts_of dna.now groups.now) items.now (drop stop dna.now) limit) }
 {
-    let texts = texts(alloc, dna, groups)?;
+    let texts = texts(alloc, dna, groups, steps)?;
     if depends(texts.as_slice(), items) {
         return Ok(Next::Depends);
     }
-    let tail = dna.sub(stop, dna.len())?;
+    let tail = dna.sub(stop, dna.len(), steps)?;
     match replace(alloc, texts.as_slice(), items, &tail, limit, steps)? {
         None => Ok(Next::TooLong),
         Some(next) => Ok(Next::Cells(next)),
@@ -41,12 +41,12 @@ pub(crate) fn put<L: Ledger>(
 
 fn replace<L: Ledger>(
     alloc: Global,
-    texts: &[SymDna],
+    texts: &[CellRope],
     items: &[TplItem],
-    tail: &SymDna,
+    tail: &CellRope,
     limit: u64,
     steps: &mut Steps<L>,
-) -> Result<Option<SymDna>, NoMemory>
+) -> Result<Option<CellRope>, NoMemory>
     requires known { depends_on_target texts.now items.now ≡ false }
     requires limit { limit ≤ 2 ^ 40 }
     requires within { length tail.now ≤ limit }
@@ -60,7 +60,6 @@ fn replace<L: Ledger>(
             return Ok(None);
         }
     }
-    let mut next = front.finished()?;
-    next.append(tail)?;
-    Ok(Some(next))
+    let next = front.finished(alloc, steps)?;
+    Ok(Some(CellRope::join(&next, tail, steps)?))
 }

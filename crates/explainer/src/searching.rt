@@ -1,10 +1,15 @@
-ghost use Rattle.std.specs.Prelude.{◌≡◌, ◌+◌, ◌<◌, ◌≤◌, Some, length, slice_get};
+ghost use Rattle.std.specs.Prelude.{◌≡◌, ℕ, ◌+◌, ◌<◌, ◌≤◌, Some, length, slice_get, IfOk};
+ghost use Rattle.explainer.specs.Windows.{IsOut, AreOut};
 ghost use Rattle.explainer.specs.Passing.{FitsSo, StandsSo, PassesSo};
 ghost use Rattle.dna_items.specs.declared.items.PatItem.TheVariants.{Search};
 
+use crate::fitting::{Along, fit_along};
 use crate::passing::Passing;
-use fuun_base::Base;
-use sym_strand::{Cell, SymDna};
+use cell_rope::{CellRope, Stretch};
+use fuun_base::{Base, NoMemory};
+use rope_search::KmpTable;
+use std::alloc::Global;
+use sym_strand::Cell;
 
 /// How a cell fits a base.
 #[derive(Clone, Copy)]
@@ -20,8 +25,8 @@ pub(crate) enum Fit {
 pub(crate) enum Window {
     /// It stands there, whatever the target.
     Sure,
-    /// It can't stand there.
-    Out,
+    /// It can't stand there: its base at this place differs.
+    Out(usize),
     Unsure,
 }
 
@@ -40,42 +45,101 @@ fn fit_known(seen: Base, base: Base) -> Fit
     if seen == base { Fit::Same } else { Fit::Other }
 }
 
-/// Goes from end to end, from the first that is possible on, up to the first that is not out.
-pub(crate) fn search(dna: &SymDna, at: u64, needle: &[Base]) -> Passing
+pub(crate) fn search(
+    alloc: Global,
+    dna: &CellRope,
+    at: u64,
+    needle: &[Base],
+) -> Result<Passing, NoMemory>
     requires { at ≤ length dna.now }
+    ensures { IfOk result (PassesSo dna.now (Search needle.now) at) }
+{
+    let table = KmpTable::new(alloc, needle)?;
+    Ok(search_by(&table, dna, at, needle))
+}
+
+/// Goes from place to place at which the needle may begin, up to the first that is not out.
+fn search_by(table: &KmpTable, dna: &CellRope, at: u64, needle: &[Base]) -> Passing
+    requires table { table.now ≡ needle.now }
+    requires at { at ≤ length dna.now }
     ensures { PassesSo dna.now (Search needle.now) at result }
 {
     let size = needle.len() as u64;
-    let mut place = at;
+    let mut place = next_place(table, dna, at);
     while size <= dna.len() - place {
         match stand_at(dna, place, needle) {
             Window::Sure => return Passing::To(place + size),
-            Window::Out => place += 1,
+            Window::Out(at) => {
+                place = next_place(table, dna, place + past_other(dna, place, needle, at));
+            }
             Window::Unsure => return Passing::Depends,
         }
     }
     Passing::Fails
 }
 
-fn stand_at(dna: &SymDna, place: u64, needle: &[Base]) -> Window
+/// The next place at which the needle may begin, as far as the stretch of a place goes.
+fn next_place(table: &KmpTable, dna: &CellRope, place: u64) -> u64
+    requires { place ≤ length dna.now }
+    ensures after { place ≤ result }
+    ensures within { result ≤ length dna.now }
+    ensures out { AreOut table.now dna.now place result }
+{
+    if place == dna.len() {
+        return place;
+    }
+    match dna.stretch(place) {
+        Stretch::Known(strand, from) => place + (table.begin_in(strand.rope(), from) - from),
+        Stretch::Target(_, _) => place,
+    }
+}
+
+/// How far behind a place at which the needle can't stand the next is at which it has there the base that differs.
+fn past_other(dna: &CellRope, place: u64, needle: &[Base], at: usize) -> u64
+    requires { (out : IsOut needle.now dna.now place) × (out.at ≡ at) }
+    ensures some { 0 < result }
+    ensures within { place + result ≤ length dna.now }
+    ensures out { AreOut needle.now dna.now place (place + result) }
+{
+    let _len = dna.len();
+    match dna.cell(place + at as u64) {
+        Some(Cell::Known(seen)) => shift_to(&needle[..at], seen) as u64,
+        _ => 1,
+    }
+}
+
+/// How far a base stands from the end of a list, counted from 1; past the list where it does not.
+fn shift_to(front: &[Base], seen: Base) -> usize
+    ensures some { 0 < result }
+    ensures most { result ≤ length front.now + 1 }
+    ensures passed { (k : ℕ) → k < length front.now → length front.now < k + result → slice_get front.now k ≡ Some seen → ⊥ }
+{
+    let mut left = front.len();
+    while left > 0 {
+        if front[left - 1] == seen {
+            return front.len() - left + 1;
+        }
+        left -= 1;
+    }
+    front.len() + 1
+}
+
+fn stand_at(dna: &CellRope, place: u64, needle: &[Base]) -> Window
     requires { place + length needle.now ≤ length dna.now }
     ensures { StandsSo needle.now dna.now place result }
 {
     let _len = dna.len();
     let mut sure = true;
-    for (index, base) in needle.iter().enumerate() {
-        match fit_of(cell_at(dna, place + index as u64), *base) {
-            Fit::Same => {}
-            Fit::Other => return Window::Out,
-            Fit::Hole => sure = false,
+    let mut done = 0;
+    while done < needle.len() {
+        match fit_along(dna, place + done as u64, &needle[done..]) {
+            Along::Same(count) => done += count,
+            Along::Other(at) => return Window::Out(done + at),
+            Along::Holes(count) => {
+                sure = false;
+                done += count;
+            }
         }
     }
     if sure { Window::Sure } else { Window::Unsure }
-}
-
-fn cell_at(dna: &SymDna, place: u64) -> Cell
-    requires { place < length dna.now }
-    ensures { slice_get dna.now place ≡ Some result }
-{
-    dna.cell(place).unwrap()
 }

@@ -4,29 +4,31 @@ ghost use Rattle.matcher.specs.Found.{LiesWithin};
 ghost use Rattle.sym_strand.specs.Cells.{all_known};
 ghost use Rattle.explainer.specs.Replacement.{text_of, texts_of, quotes_target, depends_on_target};
 
+use cell_rope::CellRope;
 use dna_items::TplItem;
-use fuun_base::NoMemory;
+use fuun_base::{NoMemory, Steps};
 use std::alloc::Global;
-use sym_strand::SymDna;
+use std::sync::ledger::Ledger;
 
 /// The cells of each group.
-pub(crate) fn texts(
+pub(crate) fn texts<L: Ledger>(
     alloc: Global,
-    dna: &SymDna,
+    dna: &CellRope,
     groups: &[(u64, u64)],
-) -> Result<Vec<SymDna>, NoMemory>
+    steps: &mut Steps<L>,
+) -> Result<Vec<CellRope>, NoMemory>
     requires { All (LiesWithin (length dna.now)) groups.now }
     ensures { IfOk result (λ texts. texts.items ≡ texts_of dna.now groups.now) }
 {
     let mut texts = Vec::with_capacity(alloc, groups.len())?;
     for group in groups {
-        texts.push(dna.sub(group.0, group.1)?)?;
+        texts.push(dna.sub(group.0, group.1, steps)?)?;
     }
     Ok(texts)
 }
 
 /// Whether an item of a template quotes a place of the target.
-pub(crate) fn depends(texts: &[SymDna], items: &[TplItem]) -> bool
+pub(crate) fn depends(texts: &[CellRope], items: &[TplItem]) -> bool
     ensures { result ≡ depends_on_target texts.now items.now }
 {
     for item in items {
@@ -37,7 +39,7 @@ pub(crate) fn depends(texts: &[SymDna], items: &[TplItem]) -> bool
     false
 }
 
-fn quotes(texts: &[SymDna], item: TplItem) -> bool
+fn quotes(texts: &[CellRope], item: TplItem) -> bool
     ensures { result ≡ quotes_target texts.now item }
 {
     match item {
@@ -47,7 +49,7 @@ fn quotes(texts: &[SymDna], item: TplItem) -> bool
     }
 }
 
-fn holds_target(texts: &[SymDna], n: u64) -> bool
+fn holds_target(texts: &[CellRope], n: u64) -> bool
     ensures { result ≡ not (all_known (text_of texts.now n)) }
 {
     match texts.get(n as usize) {

@@ -17,10 +17,14 @@ length_of_digit n some = omega (arith, ap length (asnat-digit n some))
 pub length_of_word : (n : ℕ) → n < 2 ^ 64 → length (asnat n) ≤ 65
 length_of_word n fits = length-asnat_le 64 n fits
 
+-- what has a text is what that text is put as, where it is put as it stands
+pub plain_text : (part text : List Base) (level : ℕ) → level ≡ 0 → part ≡ text → part ≡ protect level text
+plain_text part text level plain same = same ∙ sym (ap (λ n. protect n text) plain ∙ protect_zero text)
+
 -- a range that is put as it stands has its own length
 pub length_of_plain : (d text : List Base) (lo hi level : ℕ) → level ≡ 0 → hi ≤ length d → slice_range d lo hi ≡ text → hi - lo ≡ length (protect level text)
 length_of_plain d text lo hi level plain within here =
-    sym (length-range d lo hi within) ∙ ap length here ∙ sym (ap length (protect_zero text)) ∙ ap (λ n. length (protect n text)) (sym plain)
+    sym (length-range d lo hi within) ∙ ap length (plain_text (slice_range d lo hi) text level plain here)
 
 -- an empty range puts nothing, whatever the level
 pub nothing_put : (front d : List Base) (lo hi level : ℕ) → lo ≡ hi → hi ≤ length d → front ≡ front ++ protect level (slice_range d lo hi)
@@ -35,7 +39,7 @@ nothing_put front d lo hi level same within =
 
 -- a text that is put behind a list, quoted once or not at all
 pub put_plain : (front text : List Base) (level : ℕ) → level ≡ 0 → front ++ text ≡ front ++ protect level text
-put_plain front text level plain = ap (λ e. front ++ e) (sym (ap (λ n. protect n text) plain ∙ protect_zero text))
+put_plain front text level plain = ap (λ e. front ++ e) (plain_text text text level plain refl)
 
 pub put_quoted : (front text : List Base) (level : ℕ) → level ≤ 1 → 0 < level → front ++ quote text ≡ front ++ protect level text
 put_quoted front text level most some =

@@ -3,9 +3,11 @@ ghost use Rattle.fuun_base.specs.Quote.{asnat, protect};
 ghost use Rattle.fuun_base.specs.Ticks.{Ticks};
 ghost use Rattle.matcher.specs.Found.{LiesWithin};
 ghost use Rattle.replacer.specs.Costs.{put_cost, item_cost};
-ghost use Rattle.replacer.specs.Replacement.{put_by, texts_of};
+ghost use Rattle.replacer.specs.Cuts.{AreCuts};
+ghost use Rattle.replacer.specs.Replacement.{put_by, text_of, texts_of};
 ghost use Rattle.replacer.specs.Weight.{quoted_at};
 
+use crate::cuts::Cuts;
 use crate::ranges::range_of;
 use dna_items::TplItem;
 use fuun_base::{Base, NoMemory, Steps, asnat_into, quote_into};
@@ -43,10 +45,12 @@ impl<S: Strand> Front<S> {
         s: &S,
         groups: &GroupList,
         item: &TplItem,
+        cuts: &mut Cuts<S>,
         steps: &mut Steps<L>,
     ) -> Result<Self, NoMemory>
         ghost most: { ℕ }
         requires groups { All (LiesWithin (length (S.bases s.now))) groups.now }
+        requires cuts { AreCuts S.bases S.height S.height_bound (texts_of (S.bases s.now) groups.now) cuts.old.made.items }
         requires small { length (S.bases self.done ++ self.waiting.items)
             + length (put_by (texts_of (S.bases s.now) groups.now) item.now) ≤ 2 ^ 40 }
         requires within { length (S.bases self.done ++ self.waiting.items)
@@ -55,6 +59,7 @@ impl<S: Strand> Front<S> {
         requires strand { S.height s.now ≤ S.height_bound most }
         ensures bases { IfOk result (λ front. S.bases front.done ++ front.waiting.items
             ≡ (S.bases self.done ++ self.waiting.items) ++ put_by (texts_of (S.bases s.now) groups.now) item.now) }
+        ensures cuts { AreCuts S.bases S.height S.height_bound (texts_of (S.bases s.now) groups.now) cuts.new.made.items }
         ensures height { IfOk result (λ front. S.height front.done ≤ S.height_bound most) }
         ensures ticks { Ticks steps.old steps.new
             (2 * length self.waiting.items + item_cost (S.height_bound most) (texts_of (S.bases s.now) groups.now) item.now) }
@@ -63,13 +68,9 @@ impl<S: Strand> Front<S> {
     {
         match *item {
             TplItem::Base(base) => self.put_base(base),
-            TplItem::Group { n, level } => self.put_group(
-                alloc,
-                s,
-                range_of(groups, n),
-                level,
-                steps,
-            ),
+            TplItem::Group { n, level } => {
+                self.put_group(alloc, s, groups, n, level, cuts, steps)
+            }
             TplItem::Len(n) => self.put_len(s, range_of(groups, n)),
         }
     }
@@ -102,37 +103,66 @@ impl<S: Strand> Front<S> {
         self,
         alloc: Global,
         s: &S,
-        range: (u64, u64),
+        groups: &GroupList,
+        n: u64,
         level: u64,
+        cuts: &mut Cuts<S>,
         steps: &mut Steps<L>,
     ) -> Result<Self, NoMemory>
         ghost most: { ℕ }
-        requires range { LiesWithin (length (S.bases s.now)) range }
+        requires groups { All (LiesWithin (length (S.bases s.now))) groups.now }
+        requires cuts { AreCuts S.bases S.height S.height_bound (texts_of (S.bases s.now) groups.now) cuts.old.made.items }
         requires small { length (S.bases self.done ++ self.waiting.items)
-            + length (protect level (slice_range (S.bases s.now) range.0 range.1)) ≤ 2 ^ 40 }
+            + length (protect level (text_of (texts_of (S.bases s.now) groups.now) n)) ≤ 2 ^ 40 }
         requires within { length (S.bases self.done ++ self.waiting.items)
-            + length (protect level (slice_range (S.bases s.now) range.0 range.1)) ≤ most }
+            + length (protect level (text_of (texts_of (S.bases s.now) groups.now) n)) ≤ most }
         requires done { S.height self.done ≤ S.height_bound most }
         requires strand { S.height s.now ≤ S.height_bound most }
         ensures bases { IfOk result (λ front. S.bases front.done ++ front.waiting.items
-            ≡ (S.bases self.done ++ self.waiting.items) ++ protect level (slice_range (S.bases s.now) range.0 range.1)) }
+            ≡ (S.bases self.done ++ self.waiting.items) ++ protect level (text_of (texts_of (S.bases s.now) groups.now) n)) }
+        ensures cuts { AreCuts S.bases S.height S.height_bound (texts_of (S.bases s.now) groups.now) cuts.new.made.items }
         ensures height { IfOk result (λ front. S.height front.done ≤ S.height_bound most) }
         ensures ticks { Ticks steps.old steps.new
-            (2 * length self.waiting.items + put_cost (S.height_bound most) (quoted_at level (slice_range (S.bases s.now) range.0 range.1))) }
+            (2 * length self.waiting.items + put_cost (S.height_bound most) (quoted_at level (text_of (texts_of (S.bases s.now) groups.now) n))) }
         ensures paid { IfOk result (λ front. steps.new + 2 * length front.waiting.items
-            ≤ steps.old + (2 * length self.waiting.items + put_cost (S.height_bound most) (quoted_at level (slice_range (S.bases s.now) range.0 range.1)))) }
+            ≤ steps.old + (2 * length self.waiting.items + put_cost (S.height_bound most) (quoted_at level (text_of (texts_of (S.bases s.now) groups.now) n)))) }
     {
-        let (lo, hi) = range;
+        let (lo, hi) = range_of(groups, n);
         if lo == hi {
             return Ok(self);
         }
         if is_small(hi - lo, level) {
-            return self.put_small(s, range, level);
+            return self.put_small(s, (lo, hi), level);
         }
-        let done = self.joined(alloc, steps)?;
+        if level == 0 {
+            let part = cuts.of_group(s, groups, n, steps)?;
+            return self.put_part(alloc, &part, steps);
+        }
         let part = s.quoted(lo, hi, level, steps)?;
+        self.put_part(alloc, &part, steps)
+    }
+
+    // A strand comes behind all that stands.
+    fn put_part<L: Ledger>(
+        self,
+        alloc: Global,
+        part: &S,
+        steps: &mut Steps<L>,
+    ) -> Result<Self, NoMemory>
+        ghost most: { ℕ }
+        requires small { length (S.bases self.done ++ self.waiting.items) + length (S.bases part.now) ≤ 2 ^ 40 }
+        requires within { length (S.bases self.done ++ self.waiting.items) + length (S.bases part.now) ≤ most }
+        requires done { S.height self.done ≤ S.height_bound most }
+        requires part { S.height part.now ≤ S.height_bound most }
+        ensures bases { IfOk result (λ front. S.bases front.done ++ front.waiting.items
+            ≡ (S.bases self.done ++ self.waiting.items) ++ S.bases part.now) }
+        ensures height { IfOk result (λ front. S.height front.done ≤ S.height_bound most) }
+        ensures none { IfOk result (λ front. front.waiting.items ≡ []) }
+        ensures ticks { Ticks steps.old steps.new (2 * length self.waiting.items + 6 * (S.height_bound most + 1)) }
+    {
+        let done = self.joined(alloc, steps)?;
         Ok(Front {
-            done: S::join(&done, &part, steps)?,
+            done: S::join(&done, part, steps)?,
             waiting: Vec::new(alloc),
         })
     }

@@ -1,6 +1,7 @@
 //! The replacement of what was matched.
 #![tactic(auto)]
 
+mod cuts;
 mod fronts;
 pub mod laws;
 mod lengths;

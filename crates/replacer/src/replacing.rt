@@ -5,6 +5,7 @@ ghost use Rattle.replacer.specs.Costs.{cost};
 ghost use Rattle.replacer.specs.Replacement.{replacement, texts_of, replaced};
 ghost use Rattle.replacer.specs.Weight.{quoted_bases, weight_but_a_cut};
 
+use crate::cuts::Cuts;
 use crate::fronts::Front;
 use dna_items::TplList;
 use fuun_base::{NoMemory, Steps};
@@ -57,8 +58,9 @@ fn put_all<S: Strand, L: Ledger>(
         (cost (S.height_bound most) (texts_of (S.bases s.now) groups.now) tpl.now + 3 * (S.height_bound most + 1)) }
 {
     let mut front = Front::new(alloc);
+    let mut cuts = Cuts::new(alloc);
     for item in tpl.as_slice() {
-        front = front.put(alloc, s, groups, item, steps)?;
+        front = front.put(alloc, s, groups, item, &mut cuts, steps)?;
     }
     front.joined(alloc, steps)
 }

@@ -18,7 +18,7 @@ const ANY: u64 = 1 << 40;
 struct Case<'a> {
     dna: &'a [u8],
     items: &'a [TplItem],
-    group: (u64, u64),
+    groups: &'a [(u64, u64)],
     stop: u64,
     limit: u64,
 }
@@ -26,6 +26,7 @@ struct Case<'a> {
 #[test]
 fn templates_are_put(rt: HostRuntime) -> Result<(), Fail> {
     put_items::<Brand>(&rt, rt.alloc(), Blank::new(1))?;
+    share_groups::<Brand>(&rt, rt.alloc(), Blank::new(1))?;
     keep_limits::<Brand>(&rt, rt.alloc(), Blank::new(1))
 }
 
@@ -60,7 +61,7 @@ fn put_items<L: Ledger>(rt: &impl Abort, alloc: Global, blank: Blank) -> Result<
         let case = Case {
             dna,
             items,
-            group: (0, 2),
+            groups: &[(0, 2)],
             stop,
             limit: ANY,
         };
@@ -71,6 +72,44 @@ fn put_items<L: Ledger>(rt: &impl Abort, alloc: Global, blank: Blank) -> Result<
         }
     }
     Ok(())
+}
+
+// Groups that are cut once and put again, in turn.
+fn share_groups<L: Ledger>(rt: &impl Abort, alloc: Global, blank: Blank) -> Result<(), Fail>
+    requires name { blank.name ≡ L.name }
+    requires parts { blank.parts ≡ L.parts }
+    requires some { 0 < L.parts }
+{
+    let mut steps = Steps::<L>::new(blank);
+    let first = TplItem::Group { n: 0, level: 0 };
+    let last = TplItem::Group { n: 1, level: 0 };
+    let missing = TplItem::Group { n: BIG, level: 0 };
+    let p = TplItem::Base(Base::P);
+    let cs = [b'C'; 65];
+    let fs = [b'F'; 66];
+    let dna = all_of(alloc, &[&cs, &fs])?;
+    let want = all_of(alloc, &[&fs, &cs, b"P", &fs, &fs, &cs, b"P"])?;
+    let case = Case {
+        dna: dna.as_slice(),
+        items: &[last, first, p, last, missing, last, first, p],
+        groups: &[(0, 65), (65, 131)],
+        stop: 131,
+        limit: ANY,
+    };
+    let list = read_dna(alloc, want.as_slice())?;
+    match rewritten(alloc, &case, &mut steps)? {
+        None => assert!(rt; false),
+        Some(dna) => assert_eq!(rt; dna.as_slice(), list.as_slice()),
+    }
+    Ok(())
+}
+
+fn all_of(alloc: Global, parts: &[&[u8]]) -> Result<Vec<u8>, Fail> {
+    let mut all = Vec::new(alloc);
+    for part in parts {
+        all.extend_from_slice(part)?;
+    }
+    Ok(all)
 }
 
 fn keep_limits<L: Ledger>(rt: &impl Abort, alloc: Global, blank: Blank) -> Result<(), Fail>
@@ -95,7 +134,7 @@ fn keep_limits<L: Ledger>(rt: &impl Abort, alloc: Global, blank: Blank) -> Resul
         let case = Case {
             dna: b"CCCCCCCC",
             items,
-            group: (0, hi),
+            groups: &[(0, hi)],
             stop,
             limit,
         };
@@ -120,19 +159,21 @@ fn rewritten<L: Ledger>(
         return Ok(None);
     }
     let dna = FlatStrand::build(alloc, list.as_slice(), steps)?;
-    let groups = one_group(alloc, case.group, dna.len())?;
+    let groups = groups_within(alloc, case.groups, dna.len())?;
     match replaced_len(&dna, &tpl, &groups, case.stop, case.limit) {
         None => Ok(None),
         Some(_) => Ok(Some(replace(alloc, &dna, &tpl, &groups, case.stop, steps)?)),
     }
 }
 
-fn one_group(alloc: Global, group: (u64, u64), len: u64) -> Result<GroupList, Fail>
+fn groups_within(alloc: Global, ranges: &[(u64, u64)], len: u64) -> Result<GroupList, Fail>
     ensures { IfOk result (λ groups. All (LiesWithin len) groups) }
 {
     let mut groups = GroupList::new(alloc);
-    if group.0 <= group.1 && group.1 <= len {
-        groups.push(group)?;
+    for range in ranges {
+        if range.0 <= range.1 && range.1 <= len {
+            groups.push(*range)?;
+        }
     }
     Ok(groups)
 }

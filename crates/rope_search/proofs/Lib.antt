@@ -1,3 +1,4 @@
 pub mod Borders
 pub mod Going
 pub mod WorkedRow
+pub mod Beginning

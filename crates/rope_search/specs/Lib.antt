@@ -2,3 +2,4 @@ pub mod Automaton
 pub mod Sought
 pub mod Table
 pub mod Worked
+pub mod Begins

@@ -17,7 +17,7 @@ const WALK: usize = 16;
 /// A needle, with the table by which it is searched for.
 #[derive(Drop)]
 pub struct KmpTable {
-    needle: Vec<Base>,
+    pub(crate) needle: Vec<Base>,
     rows: Vec<[u32; 4]>,
 }
 
@@ -69,7 +69,7 @@ impl KmpTable {
     }
 
     /// The place in a node behind the needle's first end, of a search that comes to `lo` with so many bases found.
-    fn end_of(&self, node: &Node, lo: u64, found: &mut u32) -> Option<u64>
+    pub(crate) fn end_of(&self, node: &Node, lo: u64, found: &mut u32) -> Option<u64>
         requires short { found.old < length self.now }
         requires within { lo ≤ length node.now.bases }
         requires most { length node.now.bases ≤ 2 ^ 41 }

@@ -114,6 +114,19 @@ impl SymDna {
         self.take(more)
     }
 
+    /// Adds the cells of a segment at the end.
+    pub fn push(&mut self, seg: Seg) -> Result<(), NoMemory>
+        requires { length self.old + length (cells_in seg) ≤ 2 ^ 41 }
+        ensures added { OnOk result (self.new ≡ self.old ++ cells_in seg) }
+        ensures unchanged { OnErr result (self.new ≡ self.old) }
+    {
+        if seg.len() == 0 {
+            return Ok(());
+        }
+        let more = SymDna::of_seg(self.alloc, seg)?;
+        self.take(more)
+    }
+
     /// The fewest segments, none of them empty, that stand for the cells in order.
     pub fn segs(&self) -> &[Seg]
         ensures { StandFor result.now self.now }

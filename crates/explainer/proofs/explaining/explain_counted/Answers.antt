@@ -19,12 +19,6 @@ returns-in-TooLong-clause-too_long g c attempt e =
     (ends_too_long c.args.prefix.now c.args.target c.args.attempts c.args.limit c.loop-attempt.attempt c.loop-attempt.dna c.loop-attempt.rna c.step.new.rna c.loop-attempt.invariant c.loop-attempt-test.true
     (subst (Comes c.loop-attempt.dna c.args.limit c.loop-attempt.rna c.step.new.rna) c.in-TooLong.is c.in_ok-next.ensures))
 
-pub returns-in-Finished-clause-explained : goal.returns-in-Finished-clause-explained
-returns-in-Finished-clause-explained g c =
-    explains_finished c.args.prefix.now c.args.target c.args.attempts c.args.limit c.loop-attempt.attempt c.loop-attempt.dna c.loop-attempt.rna c.step.new.rna c.explained.result c.loop-attempt.invariant c.loop-attempt-test.true
-    (subst (Comes c.loop-attempt.dna c.args.limit c.loop-attempt.rna c.step.new.rna) c.in-Finished.is c.in_ok-next.ensures)
-    c.explained.ensures.finished c.explained.ensures.attempts c.explained.ensures.rna c.explained.ensures.segs
-
 pub returns-in-Depends-clause-depends : goal.returns-in-Depends-clause-depends
 returns-in-Depends-clause-depends g c attempt e =
     subst (λ n. EndsSo c.args.prefix.now c.args.target c.args.attempts c.args.limit (Depends n)) (same_depends c.loop-attempt.attempt attempt e)
@@ -36,9 +30,15 @@ loop-attempt-preserved g c =
     made_more (start_cells c.args.prefix.now c.args.target) c.args.limit c.loop-attempt.attempt c.loop-attempt.dna c.in-Cells.next c.loop-attempt.rna c.step.new.rna c.loop-attempt.invariant
     (subst (Comes c.loop-attempt.dna c.args.limit c.loop-attempt.rna c.step.new.rna) c.in-Cells.is c.in_ok-next.ensures)
 
+pub returns-in-Finished-clause-explained : goal.returns-in-Finished-clause-explained
+returns-in-Finished-clause-explained g c =
+    let found = c.in_ok-explained-in-Finished.ensures in
+    explains_finished c.args.prefix.now c.args.target c.args.attempts c.args.limit c.loop-attempt.attempt c.loop-attempt.dna c.loop-attempt.rna c.step.new.rna c.in_ok-explained-in-Finished.field-0 c.loop-attempt.invariant c.loop-attempt-test.true
+    (subst (Comes c.loop-attempt.dna c.args.limit c.loop-attempt.rna c.step.new.rna) c.in-Finished.is c.in_ok-next.ensures) found.finished found.attempts found.rna found.segs
+
 pub returns-clause-explained : goal.returns-clause-explained
 returns-clause-explained g c =
     let end : c.loop-attempt.attempt ≡ c.args.attempts = omega (arith, c.loop-attempt-test.false, c.loop-attempt.auto.attempt-end) in
-    explains_spent c.args.prefix.now c.args.target c.args.attempts c.args.limit c.loop-attempt.dna c.loop-attempt.rna c.explained-2.result
-    (subst (λ n. HasMade (start_cells c.args.prefix.now c.args.target) c.args.limit n c.loop-attempt.dna c.loop-attempt.rna) end c.loop-attempt.invariant)
-    c.explained-2.ensures.finished c.explained-2.ensures.attempts c.explained-2.ensures.rna c.explained-2.ensures.segs
+    let found = c.in_ok-explained.ensures in
+    explains_spent c.args.prefix.now c.args.target c.args.attempts c.args.limit c.loop-attempt.dna c.loop-attempt.rna c.in_ok-explained.field-0
+    (subst (λ n. HasMade (start_cells c.args.prefix.now c.args.target) c.args.limit n c.loop-attempt.dna c.loop-attempt.rna) end c.loop-attempt.invariant) found.finished found.attempts found.rna found.segs

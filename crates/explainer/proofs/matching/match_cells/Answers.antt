@@ -1,5 +1,5 @@
 use Rattle.std.proofs.Common.{arith, sym, subst}
-use Rattle.explainer.specs.Passing.{LeadTo}
+use Rattle.explainer.specs.Passing.{LeadTo, PassesSo}
 use Rattle.explainer.proofs.ByItems.{gone_within, gone_open, gone_on, gone_through}
 use Rattle.explainer.proofs.matching.match_cells.Goals as goal
 
@@ -13,7 +13,7 @@ mark-requires c stop =
 pub loop-item-preserved : goal.loop-item-preserved
 loop-item-preserved c =
     gone_on c.args.dna.now c.args.items.now c.loop-item.item-index c.loop-item.at c.in-To.place c.loop-item.marks.starts.items c.mark.new.self.starts.items c.loop-item.marks.ended.items c.mark.new.self.ended.items
-    c.item-item.result c.loop-item.invariant c.loop-item-test.true c.item-item.is c.in-To.ensures c.in_ok-mark-in-To.ensures
+    c.item-item.result c.loop-item.invariant c.loop-item-test.true c.item-item.is (subst (PassesSo c.args.dna.now c.item-item.result c.loop-item.at) c.in-To.is c.in_ok-place.ensures) c.in_ok-mark-in-To.ensures
 
 pub returns : goal.returns
 returns c =

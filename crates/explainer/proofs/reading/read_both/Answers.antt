@@ -41,4 +41,4 @@ both (Ok (Some items)) d old mid new pattern middle first second same = record {
 
 pub returns-in-Ok-clause-read : goal.returns-in-Ok-clause-read
 returns-in-Ok-clause-read c =
-    both c.read_rest.result c.args.front.now c.args.rna.now c.read_pattern.new.rna _ c.in-Ok.pattern c.in-Ok.middle c.in-Ok.ensures.read c.read_rest.ensures.read c.read_rest.ensures.pattern
+    both c.read_rest.result c.args.front.now.bases c.args.rna.now c.read_pattern.new.rna _ c.in-Ok.pattern c.in-Ok.middle c.in-Ok.ensures.read c.read_rest.ensures.read c.read_rest.ensures.pattern

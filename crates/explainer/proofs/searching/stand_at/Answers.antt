@@ -1,23 +1,25 @@
-use Rattle.std.proofs.Common.{◌+◌, sym, subst}
-use Rattle.std.proofs.lemmas.Option.{slice_get-get_or}
-use Rattle.explainer.proofs.ByPlaces.{SoFar, so_far_same, so_far_hole, sure_of, unsure_of}
+use Rattle.std.proofs.Common.{arith}
+use Rattle.explainer.proofs.ByPlaces.{sure_of, unsure_of}
+use Rattle.explainer.proofs.FitLemmas.{rest_length, so_far_same_more, so_far_holes, out_along}
 use Rattle.explainer.proofs.searching.stand_at.Goals as goal
-use Rattle.explainer.proofs.searching.stand_at.Goals.{in-Same, in-Hole}
 
-pub loop-index-preserved : goal.loop-index-preserved
-loop-index-preserved c =
-    let s = c.args.needle.now in let z = c.args.dna.now in
-    elim c.match-fit_of.branch [
-      | in-Same w ↦
-          subst (SoFar s z c.args.place (c.loop-index.index + 1)) (sym w.sure-is)
-          (so_far_same s z c.args.place c.loop-index.index c.loop-index.sure _ c.cell_at.result c.loop-index.invariant (slice_get-get_or s c.loop-index.index _ c.loop-index-test.true) c.cell_at.ensures w.in-Same.ensures)
-      | in-Hole w ↦
-          subst (SoFar s z c.args.place (c.loop-index.index + 1)) (sym w.sure-is)
-          (so_far_hole s z c.args.place c.loop-index.index w.in-Hole.ensures.0 c.loop-index.sure c.cell_at.result c.loop-index.invariant c.cell_at.ensures w.in-Hole.ensures.1)
-    ]
+pub loop-done-preserved-in-Same : goal.loop-done-preserved-in-Same
+loop-done-preserved-in-Same c = record {
+  within = omega (arith, c.in-Same.ensures.1, rest_length c.args.needle.now c.loop-done.done, c.loop-done.invariant.within);
+  far = so_far_same_more c.args.needle.now c.args.dna.now c.args.place c.loop-done.done c.in-Same.count c.loop-done.sure c.loop-done.invariant.far c.in-Same.ensures;
+}
+
+pub loop-done-preserved : goal.loop-done-preserved
+loop-done-preserved c = record {
+  within = omega (arith, c.in-Holes.ensures.1, rest_length c.args.needle.now c.loop-done.done, c.loop-done.invariant.within);
+  far = so_far_holes c.args.needle.now c.args.dna.now c.args.place c.loop-done.done c.in-Holes.count c.loop-done.sure c.loop-done.invariant.far c.in-Holes.ensures;
+}
+
+pub returns-in-Other : goal.returns-in-Other
+returns-in-Other c = out_along c.args.needle.now c.args.dna.now c.args.place c.loop-done.done _ c.in-Other.ensures
 
 pub returns-then-sure : goal.returns-then-sure
-returns-then-sure c = sure_of c.args.needle.now c.args.dna.now c.args.place c.loop-index.index c.loop-index.sure c.loop-index.invariant c.loop-index-test.false c.requires c.if-sure.true
+returns-then-sure c = sure_of c.args.needle.now c.args.dna.now c.args.place c.loop-done.done c.loop-done.sure c.loop-done.invariant.far c.loop-done-test.false c.requires c.if-sure.true
 
 pub returns-else-sure : goal.returns-else-sure
-returns-else-sure c = unsure_of c.args.needle.now c.args.dna.now c.args.place c.loop-index.index c.loop-index.sure c.loop-index.invariant c.loop-index.auto.index-end c.loop-index-test.false c.requires c.if-sure.false
+returns-else-sure c = unsure_of c.args.needle.now c.args.dna.now c.args.place c.loop-done.done c.loop-done.sure c.loop-done.invariant.far c.loop-done.invariant.within c.loop-done-test.false c.requires c.if-sure.false

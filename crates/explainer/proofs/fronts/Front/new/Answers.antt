@@ -5,4 +5,4 @@ use Rattle.explainer.proofs.fronts.Front.new.Goals as goal
 
 pub returns : goal.returns
 unfolding places_from
-returns c = ap (λ z. z ++ map Known c.new.result.items) c.in_ok-start.ensures ∙ ap (λ l. map Known l) c.new.ensures.items
+returns c = ap (λ z. z ++ map Known c.new.result.items) c.in_ok-empty.ensures ∙ ap (λ l. map Known l) c.new.ensures.items

@@ -18,9 +18,9 @@ returns-in-None-2 g c =
     let some : slice_get c.args.texts.now c.args.n ≡ Some c.in-Some.text.now = sym c.text_at.ensures ∙ ap option_copied c.in-Some.is in
     quoted_past c.args.texts.now c.args.n c.args.level c.args.room c.in-Some.text.now some (MatchOption-at_none _ _ c.in-None-2.is c.in_ok-quoted-in-Some.ensures)
 
-pub returns-in-Some-2 : goal.returns-in-Some-2
-returns-in-Some-2 g c =
+pub returns-in_ok-bases-in-Some-2 : goal.returns-in_ok-bases-in-Some-2
+returns-in_ok-bases-in-Some-2 g c =
     let some : slice_get c.args.texts.now c.args.n ≡ Some c.in-Some.text.now = sym c.text_at.ensures ∙ ap option_copied c.in-Some.is in
-    puts_same c.put_bases-in-Some-2.result c.args.room (cells_of c.args.self.now) _ (map Known c.as_slice.result.now) _
-    (ap (map Known) (c.as_slice.ensures.bases ∙ MatchOption-at_some _ _ c.in-Some-2.bases c.in-Some-2.is c.in_ok-quoted-in-Some.ensures)
-    ∙ ap (λ t. map Known (protect c.args.level (known_front t))) (sym (some_text c.args.texts.now c.args.n c.in-Some.text.now some))) c.put_bases-in-Some-2.ensures
+    puts_same c.put_cells.result c.args.room (cells_of c.args.self.now) _ _ _
+    (c.in_ok-bases-in-Some-2.ensures ∙ ap (map Known) (MatchOption-at_some _ _ c.in-Some-2.bases c.in-Some-2.is c.in_ok-quoted-in-Some.ensures)
+    ∙ ap (λ t. map Known (protect c.args.level (known_front t))) (sym (some_text c.args.texts.now c.args.n c.in-Some.text.now some))) c.put_cells.ensures

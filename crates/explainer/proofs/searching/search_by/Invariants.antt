@@ -1,6 +1,6 @@
 use Rattle.std.proofs.Common.{◌-◌, ◌≤◌, length}
 use Rattle.explainer.specs.Windows.{AreOut}
-use Rattle.explainer.proofs.searching.search.Given as goal
+use Rattle.explainer.proofs.searching.search_by.Given as goal
 
 abbrev pub invariant-loop-place : goal.invariant-loop-place
 invariant-loop-place l = record {

@@ -1,0 +1,4 @@
+pub mod Tree
+pub mod Body
+pub mod View
+pub mod Stretches
