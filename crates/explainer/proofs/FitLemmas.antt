@@ -159,8 +159,8 @@ out_along s z place done k fits = (
 
 -- places at which the needle does not have the base that differs
 
-pub out_inside : (s : List Base) (z : List Cell) (place at : ℕ) → (out : IsOut s z place) × (out.at ≡ at) → (at < length s) × (place + at < length z)
-out_inside s z place at x =
+pub other_inside : (s : List Base) (z : List Cell) (place at : ℕ) → (out : IsOut s z place) × (out.at ≡ at) → (at < length s) × (place + at < length z)
+other_inside s z place at x =
     let out = x.0 in (
       let less : out.at < length s = slice_get_within s out.at out.sought out.asks in omega (arith, x.1),
       let less : place + out.at < length z = slice_get_within z (place + out.at) (Known out.seen) out.there in omega (arith, x.1),
@@ -169,7 +169,7 @@ out_inside s z place at x =
 pub out_shifted : (s : List Base) (z : List Cell) (place at shift : ℕ) (seen : Base) → (out : IsOut s z place) × (out.at ≡ at) → slice_get z (place + at) ≡ Some (Known seen) → shift ≤ length (take at s) + 1
     → ((k : ℕ) → k < length (take at s) → length (take at s) < k + shift → slice_get (take at s) k ≡ Some seen → ⊥) → AreOut s z place (place + shift)
 out_shifted s z place at shift seen x there most none q past before =
-    let inside : at < length s = (out_inside s z place at x).0 in
+    let inside : at < length s = (other_inside s z place at x).0 in
     let size : length (take at s) ≡ at = length-take-le at s (omega arith) in
     elim (cases_lt place q) [
       | inr here ↦ let same : place ≡ q = omega arith in subst (IsOut s z) same x.0

@@ -9,7 +9,7 @@ use Rattle.fuun_base.proofs.QuoteLemmas.{protect_of-nil}
 use Rattle.dna_items.specs.declared.items.TplItem.{TplItem}
 use Rattle.dna_items.specs.declared.items.TplItem.TheVariants.{Group}
 use Rattle.sym_strand.specs.declared.cells.Cell.{Cell}
-use Rattle.sym_strand.specs.declared.cells.Cell.TheVariants.{Known, Target}
+use Rattle.sym_strand.specs.declared.cells.Cell.TheVariants.{Known}
 use Rattle.sym_strand.specs.Cells.{all_known, known_front}
 use Rattle.explainer.specs.Replacement.{text_of, texts_of, quotes_target, depends_on_target, put_by}
 use Rattle.explainer.specs.Making.{PutsWhere, ReplacesWithin}
@@ -61,11 +61,6 @@ put_quoted texts n (suc level) above = refl
 
 pub puts_same : {E : Type 0} (result : Result Bool E) (room : ℕ) (old new text text' : List Cell) → text ≡ text' → IfOk result (λ fits. PutsWhere fits room old new text) → IfOk result (λ fits. PutsWhere fits room old new text')
 puts_same result room old new text text' same x = subst (λ t. IfOk result (λ fits. PutsWhere fits room old new t)) same x
-
-pub bases_of_known : (z : List Cell) → all_known z ≡ true → map Known (known_front z) ≡ z
-bases_of_known [] known = refl
-bases_of_known (Known b ∷ z) known = ap (λ l. Known b ∷ l) (bases_of_known z known)
-bases_of_known (Target place ∷ z) known = cc
 
 pub no_text : (texts : List (List Cell)) (n : ℕ) → slice_get texts n ≡ None → text_of texts n ≡ []
 no_text texts n none = ap (λ o. unwrap_or o []) none

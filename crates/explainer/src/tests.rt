@@ -14,6 +14,9 @@ const PATCH: &str = "IIPIPICPIICIPCPIICIFPPCCIIC";
 // A copy of two bases from place 1 to place 2.
 const COPY: &str = "IIPIPCPIICIIPIPCPIICIIPIPCPIICIICIFPPIFPCPIFPCPIFPICPIFPICPIIC";
 
+// A C behind a base of the target, and then a search for CF.
+const SEARCH: &str = "IIPIPCCICPIICIIPIPCPIICIICIFPPIFPCPFIICIFFFPIICIIC";
+
 const LIMIT: u64 = 1 << 26;
 
 fn explained(
@@ -76,6 +79,7 @@ fn prefixes_are_explained(rt: HostRuntime) -> Result<(), Fail> {
             "end budget 0\nknown IFFIIICIICC\ntarget 0 3\n",
         ),
         ("IFFCIICIICFC", 0, 1, "end budget 1\nknown FC\n"),
+        (SEARCH, 1, 2, "end budget 2\ntarget 0 1\nknown C\n"),
     ] {
         let found = explained(alloc, letters, target, attempts, 1 << 40)?;
         let found = found.map_err(|_| Fail::from("not explained"))?;
@@ -90,6 +94,7 @@ fn what_depends_is_not_explained(rt: HostRuntime) -> Result<(), Fail> {
     let alloc = rt.alloc();
     for (letters, target, attempts, limit, error) in [
         (PATCH, 4, 2, LIMIT, ExplainError::Depends { attempt: 1 }),
+        (SEARCH, 2, 2, LIMIT, ExplainError::Depends { attempt: 1 }),
         ("CIICIIC", 1, 1, LIMIT, ExplainError::Depends { attempt: 0 }),
         (
             "IFFIIICIIC",

@@ -1,7 +1,7 @@
 //! What one verb writes, taken as the file of another.
 ghost use Rattle.std.specs.Prelude.{◌≡◌, ◌<◌};
 
-use crate::tests::words;
+use crate::tests::{REPEATING, ROW, words};
 use crate::{Status, fuun};
 use fuun_base::Steps;
 use fuun_io::{MemFolder, MemSink};
@@ -78,13 +78,6 @@ fn keep(
     files.push(Kept { name, bytes })?;
     Ok(())
 }
-
-/// A command of RNA, and a pattern and a template that put all of these bases back twice.
-const REPEATING: &[u8] =
-    b"IIIPIPIIICIIPIPCCCIICPIICIICIFPPIFPPIICIIIPIPIIICIIPIPCCCIICPIICIICIFPPIFPPIIC";
-
-/// The pattern (!2)P and the template PI{0,0}, before CFPC.
-const ROW: &[u8] = b"IIPIPICPIICICIIFICCIFPPIICCFPC";
 
 #[test]
 fn a_run_is_cut_and_goes_on(rt: HostRuntime) -> Result<(), Fail> {

@@ -1,7 +1,7 @@
 //! Each read and each write fails once: the status is the fault's, and the bytes are a front of the run's.
 ghost use Rattle.std.specs.Prelude.{◌≡◌, ◌<◌};
 
-use crate::tests::words;
+use crate::tests::{REPEATING, ROW, words};
 use crate::{Status, fuun};
 use fuun_base::Steps;
 use fuun_io::{MemFolder, MemSink};
@@ -92,14 +92,7 @@ fn count_calls(rt: &impl Abort, alloc: Global, row: &Row<'_>, kind: Kind) -> Res
     Err(Fail::from("a run without a fault"))
 }
 
-/// The pattern (!2)P and the template PI{0,0}, before CFPC.
-const ROW: &[u8] = b"IIPIPICPIICICIIFICCIFPPIICCFPC";
-
 const TRACE: &[u8] = b"0 30 (!2)P -> PI{0,0} | match 3 | 5\n1 5 finish\n";
-
-/// A command of RNA, and a pattern and a template that put all of these bases back twice.
-const REPEATING: &[u8] =
-    b"IIIPIPIIICIIPIPCCCIICPIICIICIFPPIFPPIICIIIPIPIIICIIPIPCCCIICPIICIICIFPPIFPPIIC";
 
 const SCRIPT: &[u8] = b"step 5\nwhere\nback 1\nshow 0 4\nstep 1\n";
 

@@ -13,6 +13,8 @@ mod letters;
 mod listed;
 mod making;
 mod output;
+#[cfg(test)]
+mod picture_tests;
 mod pictures;
 mod request;
 mod rewound;
