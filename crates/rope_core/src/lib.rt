@@ -4,6 +4,7 @@
 mod build;
 mod cut;
 mod join;
+mod join_from;
 mod rope;
 #[cfg(test)]
 mod tests;

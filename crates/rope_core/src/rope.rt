@@ -1,4 +1,4 @@
-ghost use Rattle.std.specs.Prelude.{◌≡◌, ◌≢◌, ◌↔◌, ◌+◌, ◌-◌, ◌*◌, ◌/◌, ◌^◌, ◌<◌, ◌≤◌, [], ◌++◌, take, drop, length, slice_range, IfOk, IfNone, IfSome, IsNone, IsTrue};
+ghost use Rattle.std.specs.Prelude.{◌≡◌, ◌≢◌, ◌↔◌, ◌+◌, ◌-◌, ◌*◌, ◌/◌, ◌^◌, ◌<◌, ◌≤◌, max, [], ◌++◌, take, drop, length, slice_range, IfOk, IfNone, IfSome, IsNone, IsTrue};
 ghost use Rattle.fuun_base.specs.Ticks.{Ticks};
 ghost use Rattle.fuun_base.specs.Quote.{bits};
 ghost use Rattle.rope_node.specs.Tree.{IsTree};
@@ -8,6 +8,7 @@ ghost use Rattle.rope_core.specs.Rope.{no_tree, IsRope};
 use crate::build::build_light;
 use crate::cut::{back, front, middle};
 use crate::join::join;
+use crate::join_from::join_from;
 use fuun_base::{Base, NoMemory, Steps};
 use rope_node::Node;
 use std::alloc::Global;
@@ -120,6 +121,31 @@ impl Rope {
                 None => a.share(),
                 Some(last) => Ok(Rope::of(a.alloc, join(a.alloc, first, last, steps)?)),
             },
+        }
+    }
+
+    /// The bases of `a` and then those of `b` from a place on. Nothing of `b` is made that the result does not keep.
+    pub fn join_from<L: Ledger>(
+        a: &Rope,
+        b: &Rope,
+        place: u64,
+        steps: &mut Steps<L>,
+    ) -> Result<Rope, NoMemory>
+        requires within { place ≤ length b.now.bases }
+        requires most { length a.now.bases + (length b.now.bases - place) ≤ 2 ^ 41 }
+        ensures rope { IfOk result (λ rope. IsRope rope) }
+        ensures bases { IfOk result (λ rope. rope.bases ≡ a.now.bases ++ drop place b.now.bases) }
+        ensures ticks { Ticks steps.old steps.new (64 * (b.now.height + 1) + 3 * max a.now.height b.now.height + 3) }
+    {
+        let Some(first) = &a.root else {
+            return b.back(place, steps);
+        };
+        match &b.root {
+            Some(last) if place < last.len() => Ok(Rope::of(
+                a.alloc,
+                join_from(a.alloc, first, last, place, steps)?,
+            )),
+            _ => a.share(),
         }
     }
 
