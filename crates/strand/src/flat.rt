@@ -144,6 +144,23 @@ impl Strand for FlatStrand {
         FlatStrand::from_vec(a.alloc, joined)
     }
 
+    fn join_from<L: Ledger>(
+        a: &Self,
+        b: &Self,
+        place: u64,
+        steps: &mut Steps<L>,
+    ) -> Result<Self, NoMemory>
+        requires within { place ≤ length b.now }
+        requires most { length a.now + (length b.now - place) ≤ 2 ^ 41 }
+        ensures bases { IfOk result (λ strand. strand ≡ a.now ++ drop place b.now) }
+        ensures kept { IfOk result (λ strand. (length strand ≤ 2 ^ 41) × (length strand ≤ length strand)) }
+        ensures ticks { Ticks steps.old steps.new (64 * (length b.now + 1) + 3 * max (length a.now) (length b.now) + 3) }
+        ensures no_ticks { steps.new ≡ steps.old }
+    {
+        let rest = b.sub(place, b.len(), steps)?;
+        FlatStrand::join(a, &rest, steps)
+    }
+
     fn build<L: Ledger>(
         alloc: Global,
         items: &[Base],

@@ -66,6 +66,19 @@ pub trait Strand: Sized + Drop {
         ensures kept { IfOk result (λ strand. (length (bases strand) ≤ 2 ^ 41) × (height strand ≤ height_bound (length (bases strand)))) }
         ensures ticks { Ticks steps.old steps.new (3 * max (height a.now) (height b.now) + 3) };
 
+    /// The bases of the first strand and then those of the second from a place on.
+    fn join_from<L: Ledger>(
+        a: &Self,
+        b: &Self,
+        place: u64,
+        steps: &mut Steps<L>,
+    ) -> Result<Self, NoMemory>
+        requires within { place ≤ length (bases b.now) }
+        requires most { length (bases a.now) + (length (bases b.now) - place) ≤ 2 ^ 41 }
+        ensures bases { IfOk result (λ strand. bases strand ≡ bases a.now ++ drop place (bases b.now)) }
+        ensures kept { IfOk result (λ strand. (length (bases strand) ≤ 2 ^ 41) × (height strand ≤ height_bound (length (bases strand)))) }
+        ensures ticks { Ticks steps.old steps.new (64 * (height b.now + 1) + 3 * max (height a.now) (height b.now) + 3) };
+
     /// The strand of these bases, of which there are at most 2^41.
     fn build<L: Ledger>(
         alloc: Global,

@@ -29,6 +29,8 @@ fn cut_and_join<L: Ledger>(rt: &impl Abort, alloc: Global, blank: Blank) -> Resu
     assert_eq!(rt; part.len(), 3);
     let joined = FlatStrand::join(&part, &whole, &mut steps)?;
     expect(rt, alloc, &joined, b"CFPICFPPI")?;
+    let onward = FlatStrand::join_from(&part, &whole, 4, &mut steps)?;
+    expect(rt, alloc, &onward, b"CFPPI")?;
     expect(rt, alloc, &FlatStrand::empty(alloc), b"")?;
     let want = Tally {
         i: 1,
