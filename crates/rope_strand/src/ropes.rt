@@ -104,6 +104,16 @@ impl Strand for RopeStrand {
         Ok(RopeStrand::new(a.alloc, joined))
     }
 
+    fn join_from<L: Ledger>(
+        a: &Self,
+        b: &Self,
+        place: u64,
+        steps: &mut Steps<L>,
+    ) -> Result<Self, NoMemory> {
+        let joined = Rope::join_from(&a.rope, &b.rope, place, steps)?;
+        Ok(RopeStrand::new(a.alloc, joined))
+    }
+
     fn build<L: Ledger>(
         alloc: Global,
         items: &[Base],

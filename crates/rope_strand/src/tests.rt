@@ -65,7 +65,7 @@ fn has_range<S: Strand, L: Ledger>(
     )
 }
 
-/// Whether the two parts at a place, joined again, are the list.
+/// Whether the two parts at a place, joined again, are the list, and so is the first joined to the strand from there on.
 fn joins<S: Strand, L: Ledger>(
     alloc: Global,
     whole: &S,
@@ -73,7 +73,7 @@ fn joins<S: Strand, L: Ledger>(
     place: u64,
     steps: &mut Steps<L>,
 ) -> Result<bool, NoMemory> {
-    if place > whole.len() {
+    if place > whole.len() || whole.len() > 3000 {
         return Ok(false);
     }
     let front = whole.sub(0, place, steps)?;
@@ -82,7 +82,8 @@ fn joins<S: Strand, L: Ledger>(
         return Ok(false);
     }
     let joined = S::join(&front, &back, steps)?;
-    Ok(bases_of(alloc, &joined)?.as_slice() == list)
+    let onward = S::join_from(&front, whole, place, steps)?;
+    Ok(bases_of(alloc, &joined)?.as_slice() == list && bases_of(alloc, &onward)?.as_slice() == list)
 }
 
 /// Whether ranges of a rope of a list are those of the list.
@@ -100,7 +101,12 @@ fn has_ranges<L: Ledger>(
             return Ok(false);
         }
     }
-    joins(alloc, &whole, list, 1234, steps)
+    for place in [0, 1234, 2900, 3000] {
+        if !joins(alloc, &whole, list, place, steps)? {
+            return Ok(false);
+        }
+    }
+    Ok(true)
 }
 
 /// Whether a part of a rope of a list, quoted so often, is that of the list.
