@@ -64,6 +64,27 @@ fn cycle(alloc: Global, size: usize) -> Result<Vec<Base>, NoMemory> {
     Ok(bases)
 }
 
+/// Whether what is left of a rope joins on to the bases before it, and half of it to the rope put twice.
+fn joins_from<L: Ledger>(
+    alloc: Global,
+    rope: &Rope,
+    bases: &[Base],
+    steps: &mut Steps<L>,
+) -> Result<bool, NoMemory>
+    requires { length rope.now.bases ≡ 2000 }
+{
+    for place in [0, 1234, 2000] {
+        let (front, _back) = rope.split(place, steps)?;
+        let whole = Rope::join_from(&front, rope, place, steps)?;
+        if !has_bases(alloc, &whole, bases)? {
+            return Ok(false);
+        }
+    }
+    let twice = Rope::join(rope, rope, steps)?;
+    let longer = Rope::join_from(&twice, rope, 1000, steps)?;
+    has_bases(alloc, &longer, &cycle(alloc, 5000)?)
+}
+
 #[test]
 fn builds_and_cuts(rt: HostRuntime) -> Result<(), Fail> {
     sizes::<Brand, _>(&rt, rt.alloc(), Blank::new(1))
@@ -102,6 +123,7 @@ fn pieces<L: Ledger, R: Abort>(rt: &R, alloc: Global, blank: Blank) -> Result<()
     let rope = Rope::build(alloc, &bases, &mut steps)?;
     assert!(rt; has_bases(alloc, &rope.share()?, &bases)?);
     assert!(rt; has_bases(alloc, &Rope::empty(alloc), &[])?);
+    assert!(rt; joins_from(alloc, &rope, &bases, &mut steps)?);
     for place in [0, 1, 511, 512, 1234, 1999, 2000] {
         let (front, back) = rope.split(place, &mut steps)?;
         assert!(rt;
