@@ -35,8 +35,7 @@ pub fn replace<S: Strand, L: Ledger>(
 {
     let _len = s.len();
     let put = put_all(alloc, s, tpl, groups, steps)?;
-    let rest = s.sub(stop, s.len(), steps)?;
-    S::join(&put, &rest, steps)
+    S::join_from(&put, s, stop, steps)
 }
 
 // The strand of what the template puts.
