@@ -102,7 +102,7 @@ fn meet<L: Ledger>(
 }
 
 /// The leaf of two leaves' bases, put together on the stack.
-fn one_leaf<L: Ledger>(
+pub(crate) fn one_leaf<L: Ledger>(
     alloc: Global,
     first: &[Base],
     last: &[Base],

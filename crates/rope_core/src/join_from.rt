@@ -3,8 +3,8 @@ ghost use Rattle.fuun_base.specs.Ticks.{Ticks};
 ghost use Rattle.rope_node.specs.Tree.{IsTree};
 
 use crate::cut::back;
-use crate::join::join;
-use fuun_base::{NoMemory, Steps};
+use crate::join::{LEAF_MOST, join, one_leaf};
+use fuun_base::{Base, NoMemory, Steps};
 use rope_node::{Node, View};
 use std::alloc::Global;
 use std::sync::ledger::Ledger;
@@ -56,10 +56,7 @@ fn carried<L: Ledger>(
         return join(alloc, a, b, steps);
     }
     match b.view() {
-        View::Leaf(bases) => {
-            let rest = Node::leaf(alloc, &bases[place as usize..], steps)?;
-            join(alloc, a, &rest, steps)
-        }
+        View::Leaf(bases) => join_bases(alloc, a, &bases[place as usize..], steps),
         View::Pair(left, right) => {
             if place >= left.len() {
                 return carried(alloc, a, right, place - left.len(), steps);
@@ -68,4 +65,30 @@ fn carried<L: Ledger>(
             join(alloc, &first, right, steps)
         }
     }
+}
+
+/// The bases of a low `a` and then these: one leaf where it has room for all.
+fn join_bases<L: Ledger>(
+    alloc: Global,
+    a: &Node,
+    bases: &[Base],
+    steps: &mut Steps<L>,
+) -> Result<Node, NoMemory>
+    requires low { a.now.height ≤ 2 }
+    requires some { 1 ≤ length bases.now }
+    requires few { length bases.now ≤ 512 }
+    requires most { length a.now.bases + length bases.now ≤ 2 ^ 41 }
+    ensures bases { IfOk result (λ node. node.bases ≡ a.now.bases ++ bases.now) }
+    ensures tree { IfOk result (λ node. IsTree node) }
+    ensures height { IfOk result (λ node. node.height ≤ 3) }
+    ensures ticks { Ticks steps.old steps.new 10 }
+    ensures credit { IfOk result (λ node. steps.new ≤ steps.old + 3 * node.height + 4) }
+{
+    if let View::Leaf(first) = a.view()
+        && first.len() + bases.len() <= LEAF_MOST
+    {
+        return one_leaf(alloc, first, bases, steps);
+    }
+    let rest = Node::leaf(alloc, bases, steps)?;
+    join(alloc, a, &rest, steps)
 }
