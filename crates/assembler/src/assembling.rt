@@ -41,7 +41,10 @@ pub fn assemble(alloc: Global, text: &[u8]) -> Result<BaseList, AsmError>
         rest = rest_from(rest, len + 1);
         number += 1;
     }
-    Ok(BaseList::from_vec(bases))
+    match BaseList::from_vec(alloc, bases) {
+        Ok(code) => Ok(code),
+        Err(NoMemory) => Err(AsmError::NoMemory),
+    }
 }
 
 // How many bytes the first line has.

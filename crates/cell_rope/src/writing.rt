@@ -29,5 +29,5 @@ fn bases_of(alloc: Global, strand: &RopeStrand) -> Result<BaseList, NoMemory>
     let mut bases = Vec::new(alloc);
     bases.resize(strand.len() as usize, Base::I)?;
     strand.copy_out(0, bases.as_mut_slice());
-    Ok(BaseList::from_vec(bases))
+    BaseList::from_vec(alloc, bases)
 }

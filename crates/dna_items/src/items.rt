@@ -16,6 +16,9 @@ pub enum PatItem {
     GroupStop,
 }
 
+// A pattern may have millions of items.
+const _: () = prove!(size_of::<PatItem>() == 24);
+
 /// An item of a template.
 #[derive(Clone, Copy, Debug, PartialEq, Eq)]
 pub enum TplItem {

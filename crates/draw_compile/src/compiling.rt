@@ -33,7 +33,10 @@ pub fn compile_picture(alloc: Global, picture: &Picture, limit: u64) -> Result<B
         return Err(DrawError::TooLong);
     }
     match drawing_of(alloc, picture, len as usize) {
-        Ok(bases) => Ok(BaseList::from_vec(bases)),
+        Ok(bases) => match BaseList::from_vec(alloc, bases) {
+            Ok(list) => Ok(list),
+            Err(_) => Err(DrawError::NoMemory),
+        },
         Err(_) => Err(DrawError::NoMemory),
     }
 }

@@ -52,7 +52,7 @@ pub fn read_dna(alloc: Global, bytes: &[u8]) -> Result<BaseList, DnaError>
             return Err(DnaError::BadBase { place: done as u64 });
         }
     }
-    Ok(BaseList::from_vec(list))
+    Ok(BaseList::from_vec(alloc, list)?)
 }
 
 // Appends the bases at the front of a block, up to the first byte that is neither a letter nor skipped, and answers how

@@ -1,6 +1,7 @@
 //! What the layers of the processor share: bases, quoting, numbers as bases, commands, DNA files, and the counter of steps.
 #![tactic(auto)]
 
+mod base_list;
 mod commands;
 mod counter;
 mod dna_file;
@@ -11,11 +12,12 @@ mod quoting;
 mod rna_file;
 mod tally;
 
+pub use base_list::BaseList;
 pub use commands::Command;
 pub use counter::Steps;
 pub use dna_file::{DnaError, read_dna};
 pub use letters::Base;
-pub use lists::{BaseList, CommandList, List, NoMemory};
+pub use lists::{CommandList, List, NoMemory};
 pub use quoting::{asnat_into, quote_into};
 pub use rna_file::{RnaError, read_rna};
 pub use tally::Tally;

@@ -1,7 +1,7 @@
 ghost use Rattle.std.specs.Prelude.{◌≡◌, ◌↔◌, [], ◌∷◌, ◌++◌, length, slice_get, IsTrue, OnOk, OnErr};
 ghost use Rattle.std.specs.Option.{option_copied};
 
-use crate::{Base, Command};
+use crate::Command;
 use std::alloc::{AllocError, AllocFailed, Global};
 use std::marker::Model;
 
@@ -26,9 +26,6 @@ impl<T: Drop> From<AllocFailed<T>> for NoMemory {
 pub struct List<T: Drop> {
     items: Vec<T>,
 }
-
-/// A list of bases.
-pub type BaseList = List<Base>;
 
 /// A list of commands of RNA, each seen as its bases.
 pub type CommandList = List<Command>;

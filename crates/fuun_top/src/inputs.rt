@@ -184,7 +184,7 @@ pub(crate) fn joined(alloc: Global, prefix: BaseList, dna: BaseList) -> Result<B
     }
     let mut bases = Vec::from_slice(alloc, prefix.as_slice())?;
     bases.extend_from_slice(dna.as_slice())?;
-    Ok(BaseList::from_vec(bases))
+    BaseList::from_vec(alloc, bases)
 }
 
 /// Reads the file of commands that a verb works on.

@@ -9,7 +9,7 @@ ghost use Rattle.patch_compile.specs.Law.{CarriesOut};
 
 use crate::code::put_row;
 use crate::fitting::first_outside;
-use fuun_base::{Base, BaseList};
+use fuun_base::{Base, BaseList, NoMemory};
 use patch_text::{PatchFile, PatchRow};
 use std::alloc::Global;
 
@@ -42,7 +42,10 @@ pub fn compile(alloc: Global, file: &PatchFile, limit: u64) -> Result<BaseList, 
     match reversed_prefix(alloc, file.rows(), limit) {
         Ok(mut bases) => {
             bases.reverse();
-            Ok(BaseList::from_vec(bases))
+            match BaseList::from_vec(alloc, bases) {
+                Ok(list) => Ok(list),
+                Err(NoMemory) => Err(CompileError::NoMemory),
+            }
         }
         Err(error) => Err(error),
     }

@@ -88,7 +88,7 @@ impl SymDna {
         };
         match first {
             Seg::Known(bases) => {
-                Ok(BaseList::from_vec(Vec::from_slice(self.alloc, bases.as_slice())?))
+                BaseList::from_vec(self.alloc, Vec::from_slice(self.alloc, bases.as_slice())?)
             }
             Seg::Target { .. } => Ok(BaseList::new(self.alloc)),
         }

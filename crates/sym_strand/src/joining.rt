@@ -75,7 +75,7 @@ fn both(alloc: Global, front: &[Base], back: &[Base]) -> Result<Seg, NoMemory>
     let mut bases = Vec::with_capacity(alloc, front.len() + back.len())?;
     bases.extend_from_slice(front)?;
     bases.extend_from_slice(back)?;
-    Ok(Seg::Known(BaseList::from_vec(bases)))
+    Ok(Seg::Known(BaseList::from_vec(alloc, bases)?))
 }
 
 fn whole(lo: u64, hi: u64, from: u64, to: u64) -> Option<Seg>

@@ -53,7 +53,7 @@ impl Seg {
 pub(crate) fn known(alloc: Global, bases: &[Base]) -> Result<Seg, NoMemory>
     ensures { IfOk result (λ seg. seg ≡ Seg.Known bases.now) }
 {
-    Ok(Seg::Known(BaseList::from_vec(Vec::from_slice(alloc, bases)?)))
+    Ok(Seg::Known(BaseList::from_vec(alloc, Vec::from_slice(alloc, bases)?)?))
 }
 
 fn known_cell(bases: &[Base], place: u64) -> Option<Cell>

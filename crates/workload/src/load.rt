@@ -36,7 +36,7 @@ pub fn make(alloc: Global, seed: u64, size: u64, rounds: u64) -> Result<Load, No
     let mut target = vec![in alloc; Base::I; size as usize]?;
     numbers.fill(&mut target);
     Ok(Load {
-        target: BaseList::from_vec(target),
+        target: BaseList::from_vec(alloc, target)?,
         patches: draw_patches(alloc, &mut numbers, size, rounds)?,
     })
 }

@@ -30,8 +30,8 @@ lines-preserved c = record {
   counted = omega (arith, ap length c.rest_from-rest.ensures, length-drop (c.line_len-len.result + 1) c.lines.rest.now, c.lines-test.true, c.lines.invariant.counted);
 }
 
-pub returns-clause-reads : goal.returns-clause-reads
-returns-clause-reads c =
+pub returns-in-Ok-clause-reads : goal.returns-in-Ok-clause-reads
+returns-in-Ok-clause-reads c =
     let answer = all_is_answer c.args.text.now c.lines.rest.now c.lines.number c.lines.bases.items c.lines.invariant.so_far c.lines-test.false in
     let read = assembled_is_read (lines c.args.text.now) c.lines.bases.items answer in
-    (read.0, read.1, subst (λ code. ReadsPairs code read.0 []) (sym c.from_vec.ensures) read.2)
+    (read.0, read.1, subst (λ code. ReadsPairs code read.0 []) (sym c.in-Ok.ensures) read.2)

@@ -9,5 +9,5 @@ use Rattle.draw_compile.proofs.compiling.compile_picture.Goals as goal
 draws : (picture : List Rgb) (dna : List Base) → IsPicture picture → dna ≡ drawing picture → Draws dna picture
 draws picture dna is same = subst (λ d. Draws d picture) (sym same) (drawing_draws picture is)
 
-pub returns-in-Ok-clause-draws : goal.returns-in-Ok-clause-draws
-returns-in-Ok-clause-draws c = draws c.args.picture.now c.from_vec.result c.drawing_len-len.ensures.picture (c.from_vec.ensures ∙ c.in-Ok.ensures)
+pub returns-in-Ok-from_vec-clause-draws : goal.returns-in-Ok-from_vec-clause-draws
+returns-in-Ok-from_vec-clause-draws c = draws c.args.picture.now c.in-Ok-from_vec.list c.drawing_len-len.ensures.picture (c.in-Ok-from_vec.ensures ∙ c.in-Ok.ensures)

@@ -38,7 +38,7 @@ loop-done-preserved c =
 
 pub returns-clause-most : goal.returns-clause-most
 returns-clause-most c =
-    let whole : c.from_vec.result ≡ bases (take c.loop-done.done c.args.bytes.now) = c.from_vec.ensures ∙ c.loop-done.invariant.read in
+    let whole : c.in_ok-from_vec.field-0 ≡ bases (take c.loop-done.done c.args.bytes.now) = c.in_ok-from_vec.ensures ∙ c.loop-done.invariant.read in
     omega (arith, ap length whole, length-bases_le (take c.loop-done.done c.args.bytes.now), ap length (take_all c.loop-done.done c.args.bytes.now c.loop-done-test.false))
 
 pub returns-clause-no_other : goal.returns-clause-no_other

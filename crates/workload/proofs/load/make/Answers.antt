@@ -12,7 +12,7 @@ returns-clause-target c =
     let room : length c.deref_mut.result.now ≡ c.args.size = search rules in
     let drawn : c.fill.new.slots ≡ bases_drawn c.args.size c.args.seed = c.fill.ensures.bases ∙ ap (λ k. bases_drawn k c.new-numbers.result) room ∙ ap (bases_drawn c.args.size) c.new-numbers.ensures in
     let whole : length c.fill.new.slots ≡ c.args.size = ap length drawn ∙ length-bases_drawn c.args.size c.args.seed in
-    c.from_vec.ensures ∙ all_filled c.fill.new.slots _ c.in_ok-target.target.len (c.in_ok-target.ensures.len ∙ sym whole) ∙ drawn
+    c.in_ok-from_vec.ensures ∙ all_filled c.fill.new.slots _ c.in_ok-target.target.len (c.in_ok-target.ensures.len ∙ sym whole) ∙ drawn
 
 pub returns-clause-patches : goal.returns-clause-patches
 unfolding patches_of
