@@ -31,21 +31,37 @@ impl From<NoMemory> for PatchError {
     }
 }
 
+/// How many brackets, braces and dots a patch file may have. Each may open a table, for which the reader of TOML takes
+/// about a kilobyte; rows of 2^26 bytes have fewer, two for each `[[patch]]`.
+const MOST_OPENINGS: usize = 5 << 20;
+
 /// Reads a patch file of at most 2^26 bytes: a TOML document.
 ///
 /// The heading has the keys `version`, which is 1 or 2, `length`, and `patch`, an array of tables, which may lack. A row
 /// that edits has the keys `at`, `cut` and `put`, one that copies `copy`, `count` and `to`, and one that moves `move`,
 /// `count` and `to`; in version 1 all rows edit. Each number is from 0 to 2^40, and `put` is a text of the letters I, C,
-/// F and P alone. The heading is judged first, then the rows in order.
+/// F and P alone. The heading is judged first, then the rows in order. Bytes with more than 5 * 2^20 opening brackets,
+/// opening braces and dots, comments included, are answered as want of memory.
 pub fn read_patches(alloc: Global, bytes: &[u8]) -> Result<PatchFile, PatchError>
     requires { length bytes.now ≤ 2 ^ 26 }
     ensures taken { IfOk result (λ file. patches bytes.now ≡ Ok file) }
     ensures refused { IfErr result (λ e. ¬ (e ≡ PatchError.NoMemory) → patches bytes.now ≡ Err e) }
 {
+    if count_openings(bytes) > MOST_OPENINGS {
+        return Err(PatchError::NoMemory);
+    }
     match toml::table_from_slice(alloc, bytes) {
         Ok(table) => read_table(alloc, &table),
         Err(error) => Err(error_of(error.is_memory())),
     }
+}
+
+/// How many bytes may open a table or an array. The dots are those of keys.
+fn count_openings(bytes: &[u8]) -> usize {
+    bytes
+        .iter()
+        .filter(|byte| matches!(**byte, b'[' | b'{' | b'.'))
+        .count()
 }
 
 fn error_of(is_memory: bool) -> PatchError
