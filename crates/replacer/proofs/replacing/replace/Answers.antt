@@ -1,4 +1,4 @@
-use Rattle.std.proofs.Common.{◌+◌, ◌*◌, ◌≤◌, length, max, arith, ap}
+use Rattle.std.proofs.Common.{◌+◌, ◌*◌, ◌≤◌, length, max, arith}
 use Rattle.fuun_base.specs.Ticks.{Ticks}
 use Rattle.replacer.specs.Replacement.{replacement, texts_of}
 use Rattle.replacer.specs.Costs.{cost}
