@@ -22,7 +22,7 @@ use Rattle.explainer.specs.declared.fitting.Along.TheVariants.{Same, Other, Hole
 use Rattle.explainer.proofs.ByPlaces.{SoFar}
 
 -- a base of a list and the base at its place in another, which is not the same
-record Differ (s x : List Base) : Type 0 where
+pub record Differ (s x : List Base) : Type 0 where
   pub at : ℕ
   pub sought : Base
   pub seen : Base
@@ -30,10 +30,10 @@ record Differ (s x : List Base) : Type 0 where
   pub there : slice_get x at ≡ Some seen
   pub differ : seen ≢ sought
 
-abbrev Fit : List Base → List Base → Type 0
+abbrev pub Fit : List Base → List Base → Type 0
 Fit s x = (k : ℕ) → k < length s → k < length x → get_or x k I ≡ get_or s k I
 
-differ_or : (s x : List Base) → Differ s x ⊎ Fit s x
+pub differ_or : (s x : List Base) → Differ s x ⊎ Fit s x
 differ_or [] x = inr (λ k lt lt'. absurd (omega arith))
 differ_or (a ∷ s) [] = inr (λ k lt lt'. absurd (omega arith))
 differ_or (a ∷ s) (b ∷ x) =
@@ -48,7 +48,7 @@ differ_or (a ∷ s) (b ∷ x) =
       fit_more a b s x same fit zero lt lt' = same
       fit_more a b s x same fit (suc k) lt lt' = fit k (omega arith) (omega arith)
 
-known_get : (x : List Base) (k : ℕ) (b : Base) → slice_get x k ≡ Some b → slice_get (map Known x) k ≡ Some (Known b)
+pub known_get : (x : List Base) (k : ℕ) (b : Base) → slice_get x k ≡ Some b → slice_get (map Known x) k ≡ Some (Known b)
 known_get [] k b there = cc
 known_get (c ∷ x) zero b there = cc
 known_get (c ∷ x) (suc k) b there = known_get x k b there
@@ -79,7 +79,7 @@ front_seen d old seen count n number is =
     let size : length (take count d) ≡ count = length-take-le count d (omega arith) in
     ap (take count) is ∙ ap (λ k. take k (take count d ++ drop count old)) (sym size) ∙ take-append_seam (take count d) (drop count old)
 
-see_front : (z rest : List Cell) (k : ℕ) (c : Cell) → slice_get z k ≡ Some c → slice_get (z ++ rest) k ≡ Some c
+pub see_front : (z rest : List Cell) (k : ℕ) (c : Cell) → slice_get z k ≡ Some c → slice_get (z ++ rest) k ≡ Some c
 see_front z rest k c there = get_front z rest k (slice_get_within z k c there) ∙ there
 
 pub fits_longer : (s : List Base) (z rest : List Cell) (along : Along) → FitsAlong s z along → FitsAlong s (z ++ rest) along

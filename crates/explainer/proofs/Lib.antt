@@ -19,3 +19,5 @@ pub mod Explanations
 pub mod RangesWithin
 pub mod EveryTarget
 pub mod FitLemmas
+pub mod RepeatLemmas
+pub mod OpenLemmas

@@ -10,3 +10,5 @@ pub mod Making
 pub mod Lines
 pub mod Answers
 pub mod Fitting
+pub mod Repeats
+pub mod Open

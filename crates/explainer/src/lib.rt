@@ -2,6 +2,7 @@
 #![tactic(auto)]
 
 mod attempt;
+mod dropping;
 mod explained;
 mod explaining;
 mod fitting;
@@ -9,8 +10,10 @@ mod fronts;
 pub mod laws;
 mod marks;
 mod matching;
+mod open_places;
 mod passing;
 mod reading;
+mod repeats;
 mod replacing;
 mod searching;
 mod texts;

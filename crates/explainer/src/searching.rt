@@ -4,12 +4,16 @@ ghost use Rattle.explainer.specs.Passing.{FitsSo, StandsSo, PassesSo};
 ghost use Rattle.dna_items.specs.declared.items.PatItem.TheVariants.{Search};
 
 use crate::fitting::{Along, fit_along};
+use crate::open_places::search_along;
 use crate::passing::Passing;
 use cell_rope::{CellRope, Stretch};
 use fuun_base::{Base, NoMemory};
 use rope_search::KmpTable;
 use std::alloc::Global;
 use sym_strand::Cell;
+
+/// How many times a needle's bases are compared in vain before a search goes stretch by stretch.
+const IN_VAIN: u64 = 16;
 
 /// How a cell fits a base.
 #[derive(Clone, Copy)]
@@ -55,27 +59,39 @@ pub(crate) fn search(
     ensures { IfOk result (PassesSo dna.now (Search needle.now) at) }
 {
     let table = KmpTable::new(alloc, needle)?;
-    Ok(search_by(&table, dna, at, needle))
+    search_by(alloc, &table, dna, at, needle)
 }
 
-/// Goes from place to place at which the needle may begin, up to the first that is not out.
-fn search_by(table: &KmpTable, dna: &CellRope, at: u64, needle: &[Base]) -> Passing
+/// Goes from place to place at which the needle may begin, up to the first that is not out. Where many bases are compared
+/// in vain it goes on stretch by stretch.
+fn search_by(
+    alloc: Global,
+    table: &KmpTable,
+    dna: &CellRope,
+    at: u64,
+    needle: &[Base],
+) -> Result<Passing, NoMemory>
     requires table { table.now ≡ needle.now }
     requires at { at ≤ length dna.now }
-    ensures { PassesSo dna.now (Search needle.now) at result }
+    ensures { IfOk result (PassesSo dna.now (Search needle.now) at) }
 {
     let size = needle.len() as u64;
+    let mut spare = size.saturating_mul(IN_VAIN);
     let mut place = next_place(table, dna, at);
     while size <= dna.len() - place {
         match stand_at(dna, place, needle) {
-            Window::Sure => return Passing::To(place + size),
-            Window::Out(at) => {
-                place = next_place(table, dna, place + past_other(dna, place, needle, at));
+            Window::Sure => return Ok(Passing::To(place + size)),
+            Window::Out(other) => {
+                if spare <= other as u64 {
+                    return search_along(alloc, table, dna, place, needle);
+                }
+                spare -= other as u64;
+                place = next_place(table, dna, place + past_other(dna, place, needle, other));
             }
-            Window::Unsure => return Passing::Depends,
+            Window::Unsure => return Ok(Passing::Depends),
         }
     }
-    Passing::Fails
+    Ok(Passing::Fails)
 }
 
 /// The next place at which the needle may begin, as far as the stretch of a place goes.
@@ -124,7 +140,7 @@ fn shift_to(front: &[Base], seen: Base) -> usize
     front.len() + 1
 }
 
-fn stand_at(dna: &CellRope, place: u64, needle: &[Base]) -> Window
+pub(crate) fn stand_at(dna: &CellRope, place: u64, needle: &[Base]) -> Window
     requires { place + length needle.now ≤ length dna.now }
     ensures { StandsSo needle.now dna.now place result }
 {
