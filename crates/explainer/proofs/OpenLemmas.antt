@@ -275,9 +275,6 @@ pub ok_map : {T E : Type 0} (r : Result T E) (P Q : T → Type 0) → IfOk r P �
 ok_map (Ok v) P Q holds so = so v holds
 ok_map (Err e) P Q holds so = holds
 
-pub out_some : (s : List Base) (z : List Cell) (place : ℕ) → IsOut s z place → 0 < length s
-out_some s z place out = let inside : out.at < length s = slice_get_within s out.at out.sought out.asks in omega arith
-
 -- the first of the bases alone were looked at
 pub goes_near : (s x near : List Base) (begun begun' later : List ℕ) (place n : ℕ) → n ≤ length x → near ≡ take n x → begun' ≡ begun → GoesOnAlong s near begun' place later place → GoesOnAlong s x begun place later place
 goes_near s x near begun begun' later place n less is same goes z there =

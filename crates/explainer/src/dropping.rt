@@ -11,8 +11,8 @@ use strand::Strand;
 /// How many bases are compared at each open place before a table is made.
 const NEAR: usize = 64;
 
-/// How many times what a table costs, counted in bases, comparing may cost.
-const WORTH: u64 = 8;
+/// How many bases are compared in the time in which a table grows by one.
+const TABLE_COST: u64 = 8;
 
 /// The open places without those at which the needle differs from the stretch of a place.
 pub(crate) fn without_differing(
@@ -73,7 +73,7 @@ fn without_other(
         (Some(first), Some(last)) => last.saturating_sub(*first),
         _ => return Ok(near),
     };
-    if near.len() as u64 / WORTH <= span / seen.len() as u64 + 1 {
+    if near.len() as u64 / TABLE_COST <= span / seen.len() as u64 + 1 {
         compared(alloc, seen, place, needle, near.as_slice())
     } else {
         tabled(alloc, seen, place, needle, near.as_slice())

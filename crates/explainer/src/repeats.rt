@@ -12,7 +12,11 @@ pub(crate) fn same_fronts(alloc: Global, list: &[Base]) -> Result<Vec<usize>, No
     let mut start = 0;
     let mut end = 0;
     for at in 0..list.len() {
-        let known = if at < end { fronts[at - start].min(end - at) } else { 0 };
+        let known = if at < end {
+            fronts[at - start].min(end - at)
+        } else {
+            0
+        };
         let same = lengthened(list, at, known);
         if at > 0 && at + same > end {
             start = at;

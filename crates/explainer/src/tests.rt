@@ -1,10 +1,16 @@
-ghost use Rattle.std.specs.Prelude.{◌≤◌, length};
+ghost use Rattle.std.specs.Prelude.{◌≡◌, ◌<◌, ◌≤◌, length};
 
+use crate::open_places::search_along;
+use crate::passing::Passing;
 use crate::{ExplainError, Explained, explain, put_explained};
-use fuun_base::{BaseList, CommandList, read_dna};
+use cell_rope::CellRope;
+use fuun_base::{BaseList, CommandList, Steps, read_dna};
 use fuun_io::MemSink;
+use rope_search::KmpTable;
 use std::alloc::Global;
+use std::marker::Brand;
 use std::process::Abort;
+use std::sync::ledger::{Blank, Ledger};
 use std::test::Fail;
 use sym_strand::SegList;
 
@@ -129,4 +135,65 @@ fn what_depends_is_not_explained(rt: HostRuntime) -> Result<(), Fail> {
         assert_eq!(&rt; found.err(), Some(error), "at {letters}");
     }
     Ok(())
+}
+
+#[test]
+fn searches_go_over_the_target(rt: HostRuntime) -> Result<(), Fail> {
+    searches::<Brand, _>(&rt, rt.alloc(), Blank::new(1))
+}
+
+fn searches<L: Ledger, R: Abort>(rt: &R, alloc: Global, blank: Blank) -> Result<(), Fail>
+    requires name { blank.name ≡ L.name }
+    requires parts { blank.parts ≡ L.parts }
+    requires some { 0 < L.parts }
+{
+    let mut steps = Steps::<L>::new(blank);
+    for (front, target, back, needle, end, place) in [
+        ("C", 2, "FC", "FF", "depends", 0),
+        ("IC", 1, "PF", "CIP", "depends", 0),
+        ("FF", 3, "FP", "FFFFFP", "depends", 0),
+        ("IC", 1, "PF", "CCF", "fails", 0),
+        ("C", 2, "CCCCI", "CCCCF", "fails", 0),
+        ("I", 1, "CCFCC", "CCF", "to", 5),
+    ] {
+        let dna = cells(alloc, front, target, back, &mut steps)?;
+        let needle = read_dna(alloc, needle.as_bytes())?;
+        if needle.len() == 0 {
+            return Ok(());
+        }
+        let table = KmpTable::new(alloc, needle.as_slice())?;
+        let passing = search_along(alloc, &table, &dna, 0, needle.as_slice())?;
+        let (found_end, found_place) = told(passing);
+        assert_eq!(rt; found_end, end, "at {front} {back}");
+        assert_eq!(rt; found_place, place, "at {front} {back}");
+    }
+    Ok(())
+}
+
+fn cells<L: Ledger>(
+    alloc: Global,
+    front: &str,
+    target: u64,
+    back: &str,
+    steps: &mut Steps<L>,
+) -> Result<CellRope, Fail> {
+    let front = read_dna(alloc, front.as_bytes())?;
+    let back = read_dna(alloc, back.as_bytes())?;
+    if front.len() > 1000 || target > 1000 || back.len() > 1000 {
+        return Err(Fail::from("too long"));
+    }
+    let front = CellRope::start(alloc, front.as_slice(), target, steps)?;
+    let back = CellRope::start(alloc, back.as_slice(), 0, steps)?;
+    if front.len() + back.len() > 3000 {
+        return Err(Fail::from("too long"));
+    }
+    Ok(CellRope::join(&front, &back, steps)?)
+}
+
+fn told(passing: Passing) -> (&'static str, u64) {
+    match passing {
+        Passing::To(place) => ("to", place),
+        Passing::Fails => ("fails", 0),
+        Passing::Depends => ("depends", 0),
+    }
 }
