@@ -12,14 +12,14 @@ use Rattle.rope_search.specs.Begins.{Agrees, BeginsFirst}
 use Rattle.sym_strand.proofs.CellLemmas.{get_front}
 use Rattle.sym_strand.specs.declared.cells.Cell.{Cell}
 use Rattle.sym_strand.specs.declared.cells.Cell.TheVariants.{Known}
-use Rattle.explainer.specs.Windows.{IsSure, IsOut, IsUnsure, AreOut, IsOutEverywhere}
+use Rattle.explainer.specs.Windows.{IsSure, IsOut, IsUnsure, AreOut}
 use Rattle.explainer.specs.Passing.{PassesSo}
 use Rattle.explainer.specs.declared.passing.Passing.{Passing}
 use Rattle.explainer.specs.declared.passing.Passing.TheVariants.{To, Fails, Depends}
 use Rattle.explainer.specs.Repeats.{IsFront, FrontsTo, AreFronts}
-use Rattle.explainer.specs.Open.{OutBut, GoesOn, FrontIsThere, GoesOnAlong, LiesFrom, DifferAt}
+use Rattle.explainer.specs.Open.{OutBut, GoesOn, FrontIsThere, GoesOnAlong, LiesFrom}
 use Rattle.explainer.proofs.ByPlaces.{out_more}
-use Rattle.explainer.proofs.FitLemmas.{Differ, differ_or, known_get, see_front, out_join}
+use Rattle.explainer.proofs.FitLemmas.{differ_or, known_get, see_front, out_join}
 
 pub out_none : (s : List Base) (z : List Cell) (place : ℕ) → AreOut s z place place
 out_none s z place q past before = absurd (omega arith)

@@ -3,7 +3,7 @@ use Rattle.std.proofs.Common.{◌≡◌, ℕ, zero, suc, ◌+◌, ◌-◌, ◌<�
 use Rattle.std.proofs.lemmas.Bool.{cases_lt}
 use Rattle.fuun_base.specs.declared.letters.Base.{Base}
 use Rattle.fuun_base.specs.declared.letters.Base.TheVariants.{I}
-use Rattle.explainer.specs.Repeats.{IsSame, IsOther, IsFront, FrontsTo, AreFronts}
+use Rattle.explainer.specs.Repeats.{IsSame, IsFront, FrontsTo}
 
 get_front_or : (xs : List ℕ) (y at : ℕ) → at < length xs → get_or (xs ++ y ∷ []) at 0 ≡ get_or xs at 0
 get_front_or [] y at less = absurd (omega arith)

@@ -1,4 +1,4 @@
-use Rattle.std.proofs.Common.{◌≡◌, ◌+◌, ◌-◌, ◌<◌, ◌≤◌, ◌++◌, length, take, get_or, arith, sym, ap, refl, subst, ◌∙◌}
+use Rattle.std.proofs.Common.{◌≡◌, ◌+◌, ◌-◌, ◌<◌, ◌≤◌, length, get_or, arith, sym, ap, subst, ◌∙◌}
 use Rattle.explainer.specs.Repeats.{AreFronts}
 use Rattle.explainer.proofs.OpenLemmas.{KeptTo, kept_one, kept_out, kept_all, out_tabled}
 use Rattle.explainer.proofs.dropping.tabled.Goals as goal

@@ -1,4 +1,4 @@
-use Rattle.std.proofs.Common.{Vec, Global, ℕ, ◌≤◌, length, refl, arith}
+use Rattle.std.proofs.Common.{Vec, Global, ℕ, refl, arith}
 use Rattle.explainer.specs.Open.{GoesOnAlong}
 use Rattle.explainer.proofs.OpenLemmas.{goes_near, goes_both, ok_map}
 use Rattle.explainer.proofs.dropping.without_other.Goals as goal

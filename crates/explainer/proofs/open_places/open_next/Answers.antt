@@ -1,4 +1,4 @@
-use Rattle.std.proofs.Common.{ℕ, ◌+◌, ◌-◌, ◌<◌, ◌≤◌, ◌^◌, length, drop, map, arith, length-drop}
+use Rattle.std.proofs.Common.{ℕ, ◌+◌, ◌-◌, ◌≤◌, length, drop, map, arith, length-drop}
 use Rattle.std.proofs.lemmas.List.{length-map}
 use Rattle.sym_strand.proofs.Places.{length-places}
 use Rattle.sym_strand.specs.Cells.{places_from}

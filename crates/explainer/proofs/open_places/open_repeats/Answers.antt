@@ -1,6 +1,5 @@
-use Rattle.std.proofs.Common.{◌≡◌, ◌+◌, ◌≤◌, ◌<◌, length, get_or, refl, arith, sym, ap, subst, ◌∙◌}
+use Rattle.std.proofs.Common.{◌≡◌, ◌+◌, ◌<◌, length, get_or, arith, sym, ap, subst, ◌∙◌}
 use Rattle.explainer.specs.Open.{GoesOn}
-use Rattle.explainer.specs.Windows.{AreOut}
 use Rattle.explainer.proofs.OpenLemmas.{goes_more, goes_out, out_repeat, out_once_here}
 use Rattle.explainer.proofs.open_places.open_repeats.Goals as goal
 use Rattle.explainer.proofs.open_places.open_repeats.Goals.{then-same-fronts+in_ok-push, else-same-fronts}

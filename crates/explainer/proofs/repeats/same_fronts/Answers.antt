@@ -1,4 +1,4 @@
-use Rattle.std.proofs.Common.{◌≡◌, ℕ, ◌+◌, ◌-◌, ◌<◌, ◌≤◌, inl, inr, length, get_or, arith, rules, sym, ap, subst, ◌∙◌}
+use Rattle.std.proofs.Common.{◌≡◌, ℕ, ◌-◌, ◌<◌, length, get_or, arith, sym, subst, ◌∙◌}
 use Rattle.explainer.specs.Repeats.{IsSame, IsFront}
 use Rattle.explainer.proofs.RepeatLemmas.{fronts_more, same_within, same_none, get_any}
 use Rattle.explainer.proofs.repeats.same_fronts.Goals as goal
