@@ -213,5 +213,5 @@ fn copied(alloc: Global, bases: &[Base]) -> Result<BaseList, NoMemory>
 {
     let mut list = Vec::with_capacity(alloc, bases.len())?;
     list.extend_from_slice(bases)?;
-    Ok(BaseList::from_vec(list))
+    BaseList::from_vec(alloc, list)
 }
