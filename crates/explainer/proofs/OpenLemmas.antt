@@ -51,37 +51,36 @@ pub record Kept (s : List Base) (z : List Cell) (from to i : ℕ) (begun kept : 
   pub before : OutBut s z from kept mid
   pub behind : OutBut s z mid (drop i begun) to
 
-abbrev pub KeptTo : List Base → List Base → ℕ → List ℕ → ℕ → List ℕ → Type 0
-KeptTo s x place begun i kept = (z : List Cell) → FrontIsThere x (length x) z place → (from : ℕ) → OutBut s z from begun place → Kept s z from place i begun kept
+abbrev pub KeptOn : List Base → List Cell → ℕ → List ℕ → ℕ → List ℕ → Type 0
+KeptOn s z to begun i kept = (from : ℕ) → OutBut s z from begun to → Kept s z from to i begun kept
 
-pub kept_none : (s x : List Base) (place : ℕ) (begun : List ℕ) → KeptTo s x place begun 0 []
-kept_none s x place begun z there from far = record { mid = from; before = (let e : from ≤ from = omega arith in e, out_none s z from); behind = far }
+pub kept_on_none : (s : List Base) (z : List Cell) (to : ℕ) (begun : List ℕ) → KeptOn s z to begun 0 []
+kept_on_none s z to begun from far = record { mid = from; before = (let e : from ≤ from = omega arith in e, out_none s z from); behind = far }
 
 next_behind : (s : List Base) (z : List Cell) (mid i : ℕ) (begun : List ℕ) (to : ℕ) → i < length begun → OutBut s z mid (drop i begun) to → OutBut s z mid (get_or begun i 0 ∷ drop (i + 1) begun) to
 next_behind s z mid i begun to inside far =
     let whole : drop i begun ≡ get_or begun i 0 ∷ drop (i + 1) begun = rw (add-one) (drop-cons begun i 0 inside) in
     subst (λ l. OutBut s z mid l to) whole far
 
-pub kept_one : (s x : List Base) (place : ℕ) (begun : List ℕ) (i : ℕ) (kept later : List ℕ) → KeptTo s x place begun i kept → i < length begun → later ≡ kept ++ get_or begun i 0 ∷ [] → KeptTo s x place begun (i + 1) later
-kept_one s x place begun i kept later far inside is z there from out =
-    let k = far z there from out in
+pub kept_on_one : (s : List Base) (z : List Cell) (to : ℕ) (begun : List ℕ) (i : ℕ) (kept later : List ℕ) → KeptOn s z to begun i kept → i < length begun → later ≡ kept ++ get_or begun i 0 ∷ [] → KeptOn s z to begun (i + 1) later
+kept_on_one s z to begun i kept later far inside is from out =
+    let k = far from out in
     let p = get_or begun i 0 in
-    let behind : OutBut s z k.mid (p ∷ drop (i + 1) begun) place = next_behind s z k.mid i begun place inside k.behind in
+    let behind : OutBut s z k.mid (p ∷ drop (i + 1) begun) to = next_behind s z k.mid i begun to inside k.behind in
     record {
       mid = p + 1;
       before = subst (λ l. OutBut s z from l (p + 1)) (sym is) (out_but_more s z from kept p (out_but_later s z from kept k.mid p k.before behind.0 behind.1));
       behind = behind.2;
     }
 
-pub kept_out : (s x : List Base) (place : ℕ) (begun : List ℕ) (i : ℕ) (kept : List ℕ) → KeptTo s x place begun i kept → i < length begun
-    → ((z : List Cell) → FrontIsThere x (length x) z place → IsOut s z (get_or begun i 0)) → KeptTo s x place begun (i + 1) kept
-kept_out s x place begun i kept far inside here z there from out =
-    let k = far z there from out in
+pub kept_on_out : (s : List Base) (z : List Cell) (to : ℕ) (begun : List ℕ) (i : ℕ) (kept : List ℕ) → KeptOn s z to begun i kept → i < length begun → IsOut s z (get_or begun i 0) → KeptOn s z to begun (i + 1) kept
+kept_on_out s z to begun i kept far inside here from out =
+    let k = far from out in
     let p = get_or begun i 0 in
-    let behind : OutBut s z k.mid (p ∷ drop (i + 1) begun) place = next_behind s z k.mid i begun place inside k.behind in
+    let behind : OutBut s z k.mid (p ∷ drop (i + 1) begun) to = next_behind s z k.mid i begun to inside k.behind in
     record {
       mid = p + 1;
-      before = out_but_later s z from kept k.mid (p + 1) k.before (omega (arith, behind.0)) (out_more s z k.mid p behind.1 (here z there));
+      before = out_but_later s z from kept k.mid (p + 1) k.before (omega (arith, behind.0)) (out_more s z k.mid p behind.1 here);
       behind = behind.2;
     }
 
@@ -91,11 +90,29 @@ drop_past [] (suc i) past = refl
 drop_past (x ∷ xs) zero past = absurd (omega arith)
 drop_past (x ∷ xs) (suc i) past = drop_past xs i (omega arith)
 
+pub kept_on_all : (s : List Base) (z : List Cell) (to : ℕ) (begun : List ℕ) (i : ℕ) (kept : List ℕ) → KeptOn s z to begun i kept → length begun ≤ i → GoesOn s z begun to kept to
+kept_on_all s z to begun i kept far past from out =
+    let k = far from out in
+    let behind : OutBut s z k.mid [] to = subst (λ l. OutBut s z k.mid l to) (drop_past begun i past) k.behind in
+    out_but_later s z from kept k.mid to k.before behind.0 behind.1
+
+-- the same wherever some bases stand at a place
+
+abbrev pub KeptTo : List Base → List Base → ℕ → List ℕ → ℕ → List ℕ → Type 0
+KeptTo s x place begun i kept = (z : List Cell) → FrontIsThere x (length x) z place → KeptOn s z place begun i kept
+
+pub kept_none : (s x : List Base) (place : ℕ) (begun : List ℕ) → KeptTo s x place begun 0 []
+kept_none s x place begun z there = kept_on_none s z place begun
+
+pub kept_one : (s x : List Base) (place : ℕ) (begun : List ℕ) (i : ℕ) (kept later : List ℕ) → KeptTo s x place begun i kept → i < length begun → later ≡ kept ++ get_or begun i 0 ∷ [] → KeptTo s x place begun (i + 1) later
+kept_one s x place begun i kept later far inside is z there = kept_on_one s z place begun i kept later (far z there) inside is
+
+pub kept_out : (s x : List Base) (place : ℕ) (begun : List ℕ) (i : ℕ) (kept : List ℕ) → KeptTo s x place begun i kept → i < length begun
+    → ((z : List Cell) → FrontIsThere x (length x) z place → IsOut s z (get_or begun i 0)) → KeptTo s x place begun (i + 1) kept
+kept_out s x place begun i kept far inside here z there = kept_on_out s z place begun i kept (far z there) inside (here z there)
+
 pub kept_all : (s x : List Base) (place : ℕ) (begun : List ℕ) (i : ℕ) (kept : List ℕ) → KeptTo s x place begun i kept → length begun ≤ i → GoesOnAlong s x begun place kept place
-kept_all s x place begun i kept far past z there from out =
-    let k = far z there from out in
-    let behind : OutBut s z k.mid [] place = subst (λ l. OutBut s z k.mid l place) (drop_past begun i past) k.behind in
-    out_but_later s z from kept k.mid place k.before behind.0 behind.1
+kept_all s x place begun i kept far past z there = kept_on_all s z place begun i kept (far z there) past
 
 -- places at which a list can't stand
 

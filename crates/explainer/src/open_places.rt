@@ -7,7 +7,9 @@ ghost use Rattle.explainer.specs.Open.{GoesOn, GoesOnAlong, OpensRepeats, Closes
 ghost use Rattle.dna_items.specs.declared.items.PatItem.TheVariants.{Search};
 
 use crate::dropping::without_differing;
+use crate::mixed::open_mixed;
 use crate::passing::Passing;
+use crate::planes::Planes;
 use crate::repeats::same_fronts;
 use crate::searching::{Window, stand_at};
 use cell_rope::{CellRope, Stretch};
@@ -16,6 +18,9 @@ use rope_search::KmpTable;
 use rope_strand::RopeStrand;
 use std::alloc::Global;
 use strand::Strand;
+
+/// A stretch of fewer cells is read with those behind it, 64 cells at once.
+const SHORT: u64 = 256;
 
 /// Searches stretch by stretch. Kept are the places before at which the needle may stand.
 pub(crate) fn search_along(
@@ -31,14 +36,23 @@ pub(crate) fn search_along(
     ensures { IfOk result (PassesSo dna.now (Search needle.now) at) }
 {
     let fronts = same_fronts(alloc, needle)?;
+    let words = Planes::of_bases(alloc, needle)?;
     let mut begun = Vec::new(alloc);
     let mut place = at;
     while place < dna.len() {
-        begun = without_differing(alloc, dna, place, needle, begun)?;
-        if let Some(found) = first_closed(dna, stretch_end(dna, place), needle, begun.as_slice()) {
-            return Ok(found);
+        let end = stretch_end(dna, place);
+        if end - place < SHORT {
+            place = open_mixed(alloc, dna, place, needle, words.as_slice(), &mut begun)?;
+            if let Some(found) = first_closed(dna, place, needle, begun.as_slice()) {
+                return Ok(found);
+            }
+        } else {
+            begun = without_differing(alloc, dna, place, needle, begun)?;
+            if let Some(found) = first_closed(dna, end, needle, begun.as_slice()) {
+                return Ok(found);
+            }
+            place = open_next(table, dna, place, fronts.as_slice(), &mut begun)?;
         }
-        place = open_next(table, dna, place, fronts.as_slice(), &mut begun)?;
     }
     match first_closed(dna, place, needle, begun.as_slice()) {
         Some(found) => Ok(found),
@@ -113,10 +127,19 @@ fn open_all(place: u64, count: u64, size: usize, begun: &mut Vec<u64>) -> Result
         begun.push(place)?;
         return Ok(place + 1);
     }
+    open_each(place, count, begun)?;
+    Ok(place + count)
+}
+
+/// Opens so many places.
+pub(crate) fn open_each(place: u64, count: u64, begun: &mut Vec<u64>) -> Result<(), NoMemory>
+    requires { place + count ≤ 2 ^ 41 }
+    ensures { OnOk result ((s : List Base) (z : List Cell) → GoesOn s z begun.old.items place begun.new.items (place + count)) }
+{
     for behind in 0..count {
         begun.push(place + behind)?;
     }
-    Ok(place + count)
+    Ok(())
 }
 
 /// The same at the bases of a strand from a place of it on.

@@ -4,7 +4,7 @@ use crate::open_places::search_along;
 use crate::passing::Passing;
 use crate::{ExplainError, Explained, explain, put_explained};
 use cell_rope::CellRope;
-use fuun_base::{BaseList, CommandList, Steps, read_dna};
+use fuun_base::{Base, BaseList, CommandList, Steps, read_dna};
 use fuun_io::MemSink;
 use rope_search::KmpTable;
 use std::alloc::Global;
@@ -168,6 +168,55 @@ fn searches<L: Ledger, R: Abort>(rt: &R, alloc: Global, blank: Blank) -> Result<
         assert_eq!(rt; found_place, place, "at {front} {back}");
     }
     Ok(())
+}
+
+#[test]
+fn searches_go_over_long_stretches(rt: HostRuntime) -> Result<(), Fail> {
+    long_searches::<Brand, _>(&rt, rt.alloc(), Blank::new(1))
+}
+
+// 300 I, some places of the target, 300 I and an F, in which so many I and an F are sought.
+fn long_searches<L: Ledger, R: Abort>(rt: &R, alloc: Global, blank: Blank) -> Result<(), Fail>
+    requires name { blank.name ≡ L.name }
+    requires parts { blank.parts ≡ L.parts }
+    requires some { 0 < L.parts }
+{
+    let mut steps = Steps::<L>::new(blank);
+    for (target, size, end, place) in [
+        (2, 301, "depends", 0),
+        (2, 602, "depends", 0),
+        (2, 603, "fails", 0),
+        (0, 300, "to", 601),
+        (0, 601, "fails", 0),
+    ] {
+        let dna = long_cells(alloc, target, &mut steps)?;
+        let mut needle = vec![in alloc; Base::I; size]?;
+        needle.push(Base::F)?;
+        let table = KmpTable::new(alloc, needle.as_slice())?;
+        let passing = search_along(alloc, &table, &dna, 0, needle.as_slice())?;
+        let (found_end, found_place) = told(passing);
+        assert_eq!(rt; found_end, end, "{size} and one over {target}");
+        assert_eq!(rt; found_place, place, "{size} and one over {target}");
+    }
+    Ok(())
+}
+
+fn long_cells<L: Ledger>(
+    alloc: Global,
+    target: u64,
+    steps: &mut Steps<L>,
+) -> Result<CellRope, Fail> {
+    if target > 1000 {
+        return Err(Fail::from("too long"));
+    }
+    let mut bases = vec![in alloc; Base::I; 300]?;
+    let front = CellRope::start(alloc, bases.as_slice(), target, steps)?;
+    bases.push(Base::F)?;
+    let back = CellRope::start(alloc, bases.as_slice(), 0, steps)?;
+    if front.len() + back.len() > 3000 {
+        return Err(Fail::from("too long"));
+    }
+    Ok(CellRope::join(&front, &back, steps)?)
 }
 
 fn cells<L: Ledger>(
