@@ -19,6 +19,23 @@ use stream::StreamSink;
 /// Bytes of output that are kept back before they are written.
 const OUTPUT_BUFFER: usize = 1 << 16;
 
+/// Bytes of stack that no verb needs all of.
+const STACK: usize = 1 << 18;
+
+/// Whether there is memory for the stack.
+fn has_stack(rt: &HostRuntime) -> bool {
+    Vec::<u8>::with_capacity(rt.alloc(), STACK).is_ok()
+}
+
+/// Takes the stack before anything else takes memory. The system gives it page by page as calls come to it, and where it
+/// has none left it ends the program by a signal.
+#[inline(never)]
+fn take_stack(rt: &HostRuntime) {
+    let pages = [0; STACK];
+    // For a write, even of no bytes, the pages have to be there.
+    let _ = rt.stderr().write(&pages[..0]);
+}
+
 /// The words after the program's name; the status where they can't be had.
 fn words(rt: &HostRuntime) -> Result<Vec<String>, Status> {
     let mut args = match env::args(rt) {
@@ -68,6 +85,10 @@ fn close<W: Write + Drop>(ended: Status, out: StreamSink<BufWriter<W>>) {
 }
 
 fn run(rt: &HostRuntime) -> Status {
+    if !has_stack(rt) {
+        return Status::NoMemory;
+    }
+    take_stack(rt);
     match words(rt) {
         Ok(words) => run_counted::<Brand>(rt, &words, Blank::new(1)),
         Err(status) => status,
