@@ -47,18 +47,33 @@ fn words(rt: &HostRuntime) -> Result<Vec<String>, Status> {
     args.collect(rt.alloc()).map_err(|_| Status::NoMemory)
 }
 
-fn run_counted<L: Ledger>(rt: &HostRuntime, words: &[String], blank: Blank) -> Status
+/// The status of what the words ask for, written as far as it tells.
+fn answer<L: Ledger, W: Write + Drop>(
+    rt: &HostRuntime,
+    words: &[String],
+    blank: Blank,
+    out: &mut StreamSink<W>,
+) -> Status
     requires name { blank.name ≡ L.name }
     requires parts { blank.parts ≡ L.parts }
     requires some { 0 < L.parts }
 {
     let mut steps = Steps::<L>::new(blank);
     let mut folder = DiskFolder::new(rt);
+    let status = fuun(rt.alloc(), words, &mut folder, out, &mut steps);
+    status
+}
+
+fn run_counted<L: Ledger>(rt: &HostRuntime, words: &[String], blank: Blank) -> Status
+    requires name { blank.name ≡ L.name }
+    requires parts { blank.parts ≡ L.parts }
+    requires some { 0 < L.parts }
+{
     let Ok(buffer) = BufWriter::with_capacity(rt.alloc(), OUTPUT_BUFFER, rt.stdout()) else {
         return Status::NoMemory;
     };
     let mut out = StreamSink::new(buffer);
-    let status = fuun(rt.alloc(), words, &mut folder, &mut out, &mut steps);
+    let status = answer::<L, _>(rt, words, blank, &mut out);
     let ended = match status {
         Status::WriteFault => Status::WriteFault,
         _ => flushed(status, &mut out),

@@ -1,6 +1,6 @@
 use Rattle.std.proofs.Common.{true, refl}
 use Rattle.fuun_top.proofs.AskLemmas.{may_ask_all}
-use Rattle.fuun.proofs.run_counted.Goals as goal
+use Rattle.fuun.proofs.answer.Goals as goal
 
 pub fuun-status-requires : goal.fuun-status-requires
 fuun-status-requires g c = may_ask_all (λ name. true) _ (λ name. refl)
