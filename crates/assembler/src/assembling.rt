@@ -4,10 +4,10 @@ ghost use Rattle.assembler.specs.Answers.{Pair, AreTexts, ReadsPairs, IsAssemble
 ghost use Rattle.assembler.specs.Laws.{IsReadOfNone};
 ghost use Rattle.assembler.specs.Lines.{IsRefusal, IsTaken};
 
-use crate::code::{is_readable, put_pair};
 use crate::numbers::rest_from;
 use crate::pairs::read_pair;
 use fuun_base::{Base, BaseList, NoMemory};
+use item_codes::{is_readable, put_pair};
 use std::alloc::Global;
 
 /// Why a text was not assembled.
@@ -80,7 +80,7 @@ fn assemble_line(
     if !is_readable(&pair.pattern) {
         return Err(AsmError::Unreadable { line: number });
     }
-    match put_pair(&pair, out) {
+    match put_pair(&pair.pattern, &pair.template, out) {
         Ok(()) => Ok(()),
         Err(NoMemory) => Err(AsmError::NoMemory),
     }

@@ -2,7 +2,6 @@
 #![tactic(auto)]
 
 mod assembling;
-mod code;
 mod items;
 pub mod laws;
 mod numbers;

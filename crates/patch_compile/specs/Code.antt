@@ -2,34 +2,33 @@
 use Rattle.std.specs.Prelude.{ℕ, ◌+◌, ◌-◌, if◌then◌else◌, List, [], ◌∷◌, ◌++◌, length, nat_le}
 use Rattle.std.specs.List.{flat_map}
 use Rattle.fuun_base.specs.declared.letters.Base.{Base}
-use Rattle.fuun_base.specs.declared.letters.Base.TheVariants.{I, C, F, P}
-use Rattle.fuun_base.specs.Quote.{quote, asnat}
+use Rattle.fuun_base.specs.Quote.{quote}
+use Rattle.dna_items.specs.declared.items.PatItem.{PatItem}
+use Rattle.dna_items.specs.declared.items.PatItem.TheVariants.{Skip, GroupStart, GroupStop}
+use Rattle.dna_items.specs.declared.items.TplItem.TheVariants.{Group}
+use Rattle.dna_reader.specs.Codes.{end_code, pattern_item_code, pattern_code, template_item_code}
 use Rattle.patch_text.specs.declared.rows.PatchRow.{PatchRow}
 use Rattle.patch_text.specs.declared.rows.PatchRow.TheVariants.{Edit, Copy, Move}
 
--- IIC, which ends a group, a pattern and a template
-abbrev pub end : List Base
-end = I ∷ I ∷ C ∷ []
+-- the items `(!n)`: a group of n bases
+abbrev pub grouped : ℕ → List PatItem
+grouped n = GroupStart ∷ Skip n ∷ GroupStop ∷ []
 
--- the skip of n bases: IP and the number
-abbrev pub skip : ℕ → List Base
-skip n = I ∷ P ∷ asnat n
-
--- the skip of n bases as a group: IIP, the skip, IIC
+-- the code of such a group
 abbrev pub skip_group : ℕ → List Base
-skip_group n = I ∷ I ∷ P ∷ (skip n ++ end)
+skip_group n = pattern_code (grouped n)
 
--- the text of a group as it stands: IFPP for group 0, IFPCP for group 1, IFPICP for group 2
+-- the text of a group as it stands, `{n,0}`
 abbrev pub reference : ℕ → List Base
-reference group = I ∷ F ∷ P ∷ asnat group
+reference group = template_item_code (Group group 0)
 
 -- the part of an edit: n bases stay, those that are cut go, and others are put in their place
 abbrev pub edit_code : ℕ → ℕ → List Base → List Base
-edit_code n cut put = skip_group n ++ (skip cut ++ (end ++ (reference 0 ++ (quote put ++ end))))
+edit_code n cut put = skip_group n ++ (pattern_item_code (Skip cut) ++ (end_code ++ (reference 0 ++ (quote put ++ end_code))))
 
 -- the part of a copy or a move: three groups of a, b and c bases, put as the references say
 abbrev pub range_code : ℕ → ℕ → ℕ → List ℕ → List Base
-range_code a b c references = skip_group a ++ (skip_group b ++ (skip_group c ++ (end ++ (flat_map reference references ++ end))))
+range_code a b c references = skip_group a ++ (skip_group b ++ (skip_group c ++ (end_code ++ (flat_map reference references ++ end_code))))
 
 -- the part of a row before r bases of further parts, which its first skip passes over
 abbrev pub copy_code : ℕ → ℕ → ℕ → ℕ → List Base

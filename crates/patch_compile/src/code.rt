@@ -2,9 +2,11 @@
 ghost use Rattle.std.specs.Prelude.{◌≡◌, ◌+◌, ◌^◌, ◌≤◌, ◌++◌, true, OnOk};
 ghost use Rattle.std.specs.List.{flat_map};
 ghost use Rattle.patch_text.specs.Contents.{has_small_numbers};
-ghost use Rattle.patch_compile.specs.Code.{copy_code, edit_code, end, move_code, range_code, reference, row_code, skip, skip_group};
+ghost use Rattle.patch_compile.specs.Code.{copy_code, edit_code, move_code, range_code, reference, row_code, skip_group};
 
-use fuun_base::{Base, NoMemory, asnat_into, quote_into};
+use dna_items::TplItem;
+use fuun_base::{Base, NoMemory, quote_into};
+use item_codes::{put_end, put_group_start, put_skip, put_template_item};
 use patch_text::PatchRow;
 
 /// Appends the part of a row before `behind` bases of further parts.
@@ -118,28 +120,13 @@ fn put_references(references: &[u64], out: &mut Vec<Base>) -> Result<(), NoMemor
 fn put_reference(group: u64, out: &mut Vec<Base>) -> Result<(), NoMemory>
     ensures { OnOk result (out.new.items ≡ out.old.items ++ reference group) }
 {
-    out.extend_from_slice(&[Base::I, Base::F, Base::P])?;
-    asnat_into(group, out)
+    put_template_item(TplItem::Group { n: group, level: 0 }, out)
 }
 
 fn put_skip_group(n: u64, out: &mut Vec<Base>) -> Result<(), NoMemory>
     ensures { OnOk result (out.new.items ≡ out.old.items ++ skip_group n) }
 {
-    out.extend_from_slice(&[Base::I, Base::I, Base::P])?;
+    put_group_start(out)?;
     put_skip(n, out)?;
     put_end(out)
-}
-
-fn put_skip(n: u64, out: &mut Vec<Base>) -> Result<(), NoMemory>
-    ensures { OnOk result (out.new.items ≡ out.old.items ++ skip n) }
-{
-    out.extend_from_slice(&[Base::I, Base::P])?;
-    asnat_into(n, out)
-}
-
-fn put_end(out: &mut Vec<Base>) -> Result<(), NoMemory>
-    ensures { OnOk result (out.new.items ≡ out.old.items ++ end) }
-{
-    out.extend_from_slice(&[Base::I, Base::I, Base::C])?;
-    Ok(())
 }
