@@ -2,6 +2,7 @@
 #![tactic(auto)]
 
 pub mod laws;
+mod openings;
 mod read;
 mod rows;
 mod table;

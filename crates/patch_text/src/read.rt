@@ -5,6 +5,7 @@ ghost use Rattle.toml.specs.Data.{as_array, as_table, get_member};
 ghost use Rattle.toml.specs.View.{items_view, table_view, view};
 ghost use Rattle.patch_text.specs.Meaning.{contents_in, copy_in, edit_in, heading_in, items_of, move_in, patches, row_in, shift_in, version_in, with_bounded, with_member, with_members};
 
+use crate::openings::count_openings;
 use crate::rows::{AddError, PatchFile, PatchRow};
 use crate::table::{Kind, bases_at, has_only, number_at};
 use fuun_base::NoMemory;
@@ -31,8 +32,8 @@ impl From<NoMemory> for PatchError {
     }
 }
 
-/// How many brackets, braces and dots a patch file may have. Each may open a table, for which the reader of TOML takes
-/// about a kilobyte; rows of 2^26 bytes have fewer, two for each `[[patch]]`.
+/// How many brackets, braces and dots a patch file may have outside comments and strings. Each may open a table, for
+/// which the reader of TOML takes about a kilobyte; rows of 2^26 bytes have fewer, two for each `[[patch]]`.
 const MOST_OPENINGS: usize = 5 << 20;
 
 /// Reads a patch file of at most 2^26 bytes: a TOML document.
@@ -41,7 +42,7 @@ const MOST_OPENINGS: usize = 5 << 20;
 /// that edits has the keys `at`, `cut` and `put`, one that copies `copy`, `count` and `to`, and one that moves `move`,
 /// `count` and `to`; in version 1 all rows edit. Each number is from 0 to 2^40, and `put` is a text of the letters I, C,
 /// F and P alone. The heading is judged first, then the rows in order. Bytes with more than 5 * 2^20 opening brackets,
-/// opening braces and dots, comments included, are answered as want of memory.
+/// opening braces and dots outside comments and strings are answered as want of memory.
 pub fn read_patches(alloc: Global, bytes: &[u8]) -> Result<PatchFile, PatchError>
     requires { length bytes.now ≤ 2 ^ 26 }
     ensures taken { IfOk result (λ file. patches bytes.now ≡ Ok file) }
@@ -54,14 +55,6 @@ pub fn read_patches(alloc: Global, bytes: &[u8]) -> Result<PatchFile, PatchError
         Ok(table) => read_table(alloc, &table),
         Err(error) => Err(error_of(error.is_memory())),
     }
-}
-
-/// How many bytes may open a table or an array. The dots are those of keys.
-fn count_openings(bytes: &[u8]) -> usize {
-    bytes
-        .iter()
-        .filter(|byte| matches!(**byte, b'[' | b'{' | b'.'))
-        .count()
 }
 
 fn error_of(is_memory: bool) -> PatchError

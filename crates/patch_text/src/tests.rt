@@ -1,4 +1,5 @@
 use super::*;
+use crate::openings::count_openings;
 use fuun_base::{Base, read_dna};
 use std::alloc::Global;
 use std::test::Fail;
@@ -113,5 +114,41 @@ fn rows_are_added_within_bounds(rt: HostRuntime) -> Result<(), Fail> {
     assert_eq!(rt; file.add_copy(most, most, most), Ok(()));
     assert_eq!(rt; file.add_move(most, most, most), Ok(()));
     assert_eq!(rt; file.rows().len(), 3);
+    Ok(())
+}
+
+#[test]
+fn openings_stand_outside_comments_and_strings(rt: HostRuntime) -> Result<(), Fail> {
+    for (text, count) in [
+        ("[[patch]]\na.b = {}\n", 4),
+        ("# [.{ '\n[a]", 1),
+        ("'[\\' [", 1),
+        ("\"['\\\"[\\\\\" [", 1),
+        ("'' [", 1),
+        ("\"\".a", 1),
+        ("'''[\n'[''[\\''' [", 1),
+        ("\"\"\"[\n\"[\"\"[\\\"\"\"[\"\"\" [", 1),
+        ("\"\"\"\"\"\"[", 1),
+        ("\"\"\"[\"\"\"\"[", 1),
+        ("\"\"\"[\"\"\"\"\"[", 1),
+        ("a = \"[\n[b]", 1),
+    ] {
+        assert_eq!(rt; count_openings(text.as_bytes()), count, "at {text:?}");
+    }
+    Ok(())
+}
+
+#[test]
+fn a_comment_of_dots_is_taken(rt: HostRuntime) -> Result<(), Fail> {
+    let alloc = rt.alloc();
+    let heading = b"version = 1\nlength = 0\n#".as_slice();
+    let mut text = Vec::from_slice(alloc, heading)?;
+    text.resize(heading.len() + (5 << 20) + 1, b'.')?;
+    let file = read_patches(alloc, text.as_slice())?;
+    assert_eq!(rt; file.rows().len(), 0);
+    text.clear();
+    text.resize((5 << 20) + 1, b'.')?;
+    let answer = read_patches(alloc, text.as_slice()).map(|file| file.length());
+    assert_eq!(rt; answer, Err(PatchError::NoMemory));
     Ok(())
 }

@@ -1,5 +1,6 @@
 -- Lengths of numbers and of quoted ranges.
-use Rattle.std.proofs.Common.{◌≡◌, ℕ, ◌+◌, ◌-◌, ◌*◌, ◌/◌, ◌^◌, ◌<◌, ◌≤◌, List, [], ◌∷◌, ◌++◌, length, slice_range, arith, refl, sym, ap, ◌∙◌, append-nil, length-append}
+use Rattle.std.proofs.Common.{◌≡◌, inl, inr, ℕ, ◌+◌, ◌-◌, ◌*◌, ◌/◌, ◌^◌, ◌<◌, ◌≤◌, List, [], ◌∷◌, ◌++◌, length, slice_range, arith, refl, sym, ap, ◌∙◌, append-nil}
+use Rattle.std.proofs.lemmas.Bool.{cases_lt}
 use Rattle.fuun_base.specs.declared.letters.Base.{Base}
 use Rattle.fuun_base.specs.Quote.{quote, protect, asnat}
 use Rattle.fuun_base.proofs.AsnatLemmas.{asnat-zero, asnat-digit, length-asnat_le}
@@ -37,16 +38,32 @@ nothing_put front d lo hi level same within =
     nil_of [] none = refl
     nil_of (b ∷ e) none = absurd (omega arith)
 
--- a text that is put behind a list, quoted once or not at all
+-- a text that is put behind a list: as it stands, quoted once, or quoted once more than before
 pub put_plain : (front text : List Base) (level : ℕ) → level ≡ 0 → front ++ text ≡ front ++ protect level text
 put_plain front text level plain = ap (λ e. front ++ e) (plain_text text text level plain refl)
 
-pub put_quoted : (front text : List Base) (level : ℕ) → level ≤ 1 → 0 < level → front ++ quote text ≡ front ++ protect level text
-put_quoted front text level most some =
-    let once : level ≡ 0 + 1 = omega arith in
-    ap (λ e. front ++ e) (sym (ap (λ n. protect n text) once ∙ protect_more 0 text ∙ ap quote (protect_zero text)))
+pub quoted_once : (text : List Base) (level : ℕ) → level ≡ 1 → quote text ≡ protect level text
+quoted_once text level once =
+    let is : level ≡ 0 + 1 = omega arith in
+    sym (ap (λ n. protect n text) is ∙ protect_more 0 text ∙ ap quote (protect_zero text))
 
--- which adds at most twice its length
-pub length_of_put : (front text new : List Base) → new ≡ front ++ quote text → length new ≤ length front + 2 * length text
-length_of_put front text new is =
-    omega (arith, ap length is, length-append front (quote text), length-quote text, tally_total-tally_of text)
+pub quoted_more : (text before : List Base) (level : ℕ) → 0 < level → before ≡ protect (level - 1) text → quote before ≡ protect level text
+quoted_more text before level some is =
+    let whole : level - 1 + 1 ≡ level = omega arith in
+    ap quote is ∙ sym (protect_more (level - 1) text) ∙ ap (λ n. protect n text) whole
+
+-- a text that is quoted once or not at all is at most twice as long
+length_once : (text : List Base) (level : ℕ) → level ≤ 1 → length (protect level text) ≤ 2 * length text
+length_once text level most = elim (cases_lt 0 level) [
+  | inl some ↦
+      let once : level ≡ 1 = omega (arith, most, some) in
+      omega (arith, ap length (quoted_once text level once), length-quote text, tally_total-tally_of text)
+  | inr none ↦
+      let plain : level ≡ 0 = omega (arith, none) in
+      omega (arith, ap length (plain_text text text level plain refl))
+]
+
+pub length_of_few : (d : List Base) (lo hi level : ℕ) → hi ≤ length d → hi ≤ lo + 64 → level ≤ 1 → length (protect level (slice_range d lo hi)) ≤ 128
+length_of_few d lo hi level within few most =
+    let len : length (slice_range d lo hi) ≡ hi - lo = length-range d lo hi within in
+    omega (arith, len, few, length_once (slice_range d lo hi) level most)

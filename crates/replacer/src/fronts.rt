@@ -16,7 +16,7 @@ use std::alloc::Global;
 use std::sync::ledger::Ledger;
 use strand::Strand;
 
-// A group of at most so many bases waits with the literals, unless it is quoted more than once.
+// A group of at most so many bases waits with the literals, unless more than twice as many are put for it.
 const SMALL_MOST: usize = 64;
 
 // What stands of the new DNA: a strand, and the bases behind it that wait for the next build.
@@ -131,8 +131,8 @@ impl<S: Strand> Front<S> {
         if lo == hi {
             return Ok(self);
         }
-        if is_small(hi - lo, level) {
-            return self.put_small(s, (lo, hi), level);
+        if is_small(s, (lo, hi), level) {
+            return self.put_small(alloc, s, (lo, hi), level);
         }
         if level == 0 {
             let part = cuts.of_group(s, groups, n, steps)?;
@@ -167,11 +167,17 @@ impl<S: Strand> Front<S> {
         })
     }
 
-    // A group of a few bases waits with the literals.
-    fn put_small(self, s: &S, range: (u64, u64), level: u64) -> Result<Self, NoMemory>
+    // A group for which a few bases are put waits with the literals.
+    fn put_small(
+        self,
+        alloc: Global,
+        s: &S,
+        range: (u64, u64),
+        level: u64,
+    ) -> Result<Self, NoMemory>
         requires range { LiesWithin (length (S.bases s.now)) range }
         requires few { range.1 ≤ range.0 + 64 }
-        requires level { level ≤ 1 }
+        requires put { length (protect level (slice_range (S.bases s.now) range.0 range.1)) ≤ 128 }
         ensures bases { IfOk result (λ front. S.bases front.done ++ front.waiting.items
             ≡ (S.bases self.done ++ self.waiting.items) ++ protect level (slice_range (S.bases s.now) range.0 range.1)) }
         ensures done { IfOk result (λ front. front.done ≡ self.done) }
@@ -182,7 +188,7 @@ impl<S: Strand> Front<S> {
         let text = &mut text[..(hi - lo) as usize];
         s.copy_out(lo, text);
         let mut front = self;
-        append_quoted(text, level, &mut front.waiting)?;
+        append_quoted(alloc, text, level, &mut front.waiting)?;
         Ok(front)
     }
 
@@ -208,22 +214,61 @@ impl<S: Strand> Front<S> {
     }
 }
 
-// Whether a group of so many bases, put at such a level, waits with the literals.
-fn is_small(len: u64, level: u64) -> bool
-    ensures { result ≡ true → (len ≤ 64) × (level ≤ 1) }
+// Whether a group, put at such a level, waits with the literals.
+fn is_small<S: Strand>(s: &S, range: (u64, u64), level: u64) -> bool
+    requires { LiesWithin (length (S.bases s.now)) range }
+    ensures few { result ≡ true → range.1 ≤ range.0 + 64 }
+    ensures put { result ≡ true → length (protect level (slice_range (S.bases s.now) range.0 range.1)) ≤ 128 }
 {
-    len <= SMALL_MOST as u64 && level <= 1
+    let (lo, hi) = range;
+    hi - lo <= SMALL_MOST as u64 && puts_few(s, range, level)
 }
 
-// Appends a text, quoted once or not at all.
-fn append_quoted(text: &[Base], level: u64, out: &mut Vec<Base>) -> Result<(), NoMemory>
-    requires { level ≤ 1 }
-    ensures added { OnOk result (out.new.items ≡ out.old.items ++ protect level text.now) }
-    ensures most { OnOk result (length out.new.items ≤ length out.old.items + 2 * length text.now) }
+// Whether few bases are put for a group of a few bases.
+fn puts_few<S: Strand>(s: &S, range: (u64, u64), level: u64) -> bool
+    requires range { LiesWithin (length (S.bases s.now)) range }
+    requires few { range.1 ≤ range.0 + 64 }
+    ensures { result ≡ true → length (protect level (slice_range (S.bases s.now) range.0 range.1)) ≤ 128 }
+{
+    if level <= 1 {
+        return true;
+    }
+    let (lo, hi) = range;
+    let tally = s.tally(lo, hi);
+    tally.quoted_len(level, 2 * SMALL_MOST as u64).is_some()
+}
+
+// Appends a text, quoted as often as the level says.
+fn append_quoted(
+    alloc: Global,
+    text: &[Base],
+    level: u64,
+    out: &mut Vec<Base>,
+) -> Result<(), NoMemory>
+    ensures { OnOk result (out.new.items ≡ out.old.items ++ protect level text.now) }
 {
     if level == 0 {
         out.extend_from_slice(text)?;
         return Ok(());
     }
-    quote_into(text, out)
+    if level == 1 {
+        return quote_into(text, out);
+    }
+    let quoted = quoted_text(alloc, text, level - 1)?;
+    quote_into(quoted.as_slice(), out)
+}
+
+// A text, quoted as often as the level says.
+fn quoted_text(alloc: Global, text: &[Base], level: u64) -> Result<Vec<Base>, NoMemory>
+    requires { 1 ≤ level }
+    ensures { IfOk result (λ quoted. quoted.items ≡ protect level text.now) }
+{
+    let mut quoted = Vec::new(alloc);
+    quote_into(text, &mut quoted)?;
+    for _ in 1..level {
+        let mut more = Vec::new(alloc);
+        quote_into(quoted.as_slice(), &mut more)?;
+        quoted = more;
+    }
+    Ok(quoted)
 }

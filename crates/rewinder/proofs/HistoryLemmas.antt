@@ -14,8 +14,9 @@ use Rattle.exec_loop.proofs.Weighing.{has_weight, weigh_more}
 use Rattle.rewinder.specs.declared.orders.Stop.{Stop}
 use Rattle.rewinder.specs.declared.orders.Stop.TheVariants.{Limit, Finish, TooLong}
 use Rattle.rewinder.specs.Versions.{most_attempts, IsVersion}
+use Rattle.rewinder.specs.Rewinding.{HasVersions}
 use Rattle.rewinder.specs.Weights.{LastTried}
-use Rattle.rewinder.specs.History.{History, version, reached, EndsFor, IsHistory, GoesOn, last_version, last_state, Grows, ByOne, ByStop, Extends, Makes, Keeps, Reaches, There, Here, Short, FailsToReach}
+use Rattle.rewinder.specs.History.{History, version, reached, rewinding, EndsFor, IsHistory, GoesOn, last_version, last_state, Grows, ByOne, ByStop, Extends, Makes, Keeps, Reaches, There, Here, Short, FailsToReach}
 use Rattle.rewinder.proofs.VersionLemmas.{first_version, version_more}
 
 -- a list that grew by one
@@ -93,6 +94,12 @@ history_stop h stop x ends = record {
   within = x.within;
   stops = ends;
 }
+
+pub has_versions : (h : History) (attempt : ℕ) → IsHistory h → HasVersions (rewinding h attempt)
+has_versions h attempt x = λ (number : ℕ) (most : number ≤ reached h).
+    let one : 0 < length h.kept = x.one in
+    let lt : number < length h.kept = omega (arith, one, most) in
+    record { dna = version h number; version = x.is number lt; within = x.within number lt }
 
 -- attempts that were made
 

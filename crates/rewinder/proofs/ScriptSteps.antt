@@ -11,7 +11,7 @@ use Rattle.rewinder.specs.declared.orders.RewindError.{RewindError}
 use Rattle.rewinder.specs.declared.orders.RewindError.TheVariants.{WriteFault, NoMemory}
 use Rattle.rewinder.specs.Versions.{most_attempts, IsVersion}
 use Rattle.rewinder.specs.Texts.{Obeys, Writes}
-use Rattle.rewinder.specs.Rewinding.{Rewinding, IsRewinding, Commanded, AllCommanded}
+use Rattle.rewinder.specs.Rewinding.{Rewinding, IsRewinding, Commanded, AllCommanded, BrokeOff}
 use Rattle.rewinder.specs.Weights.{OrderTicks, OrderWeighs, ScriptWeighs, TicksForScript}
 use Rattle.rewinder.proofs.TextLemmas.{has_text, writes_behind, writes_one}
 use Rattle.rewinder.proofs.WeightLemmas.{failed_order_within, obeyed_order_within, unwritten_order_within, one_order_place}
@@ -28,6 +28,7 @@ pub record Obeying (height : ℕ) (old new : Rewinding) (orders : List Order) (n
   pub start : new.start ≡ old.start
   pub limit : new.limit ≡ old.limit
   pub known : IsRewinding new
+  pub rises : old.reached ≤ new.reached
   pub text : List ℕ
   pub writes : Writes old.limit old.start (take number orders) old.attempt new.attempt text
   pub put : now ≡ appended told text
@@ -38,6 +39,7 @@ obeying_none height r orders told steps known = record {
   start = refl;
   limit = refl;
   known = known;
+  rises = omega arith;
   text = [];
   writes = (refl, refl);
   put = sym (appended-nil told);
@@ -79,6 +81,7 @@ module _ (height : ℕ) (old mid : Rewinding) (orders : List Order) (number : �
     start = start ∙ x.start;
     limit = limit ∙ x.limit;
     known = known;
+    rises = let before : old.reached ≤ mid.reached = x.rises in omega (arith, before, commanded.1.reached);
     text = x.text ++ commanded.0;
     writes = writes_with new.attempt commanded.0 commanded.1.obeys;
     put = commanded.2 ∙ ap (λ t. appended t commanded.0) x.put ∙ appended-appended told x.text commanded.0;
@@ -147,3 +150,25 @@ module _ (height : ℕ) (old mid : Rewinding) (orders : List Order) (number : �
       let few : mid.reached ≤ most_attempts = x.known.few in
       front_of_all new U RewindError NoMemory number mid.attempt mid.dna x.text [] now (omega (arith, behind, few)) version x.writes
       (record { front = x.text; rest = []; whole = sym (append-nil x.text); put = commanded.1 ∙ x.put })
+
+  broke_by : (new : Rewinding) (T U : Type 0) (e : RewindError) (now : Option (List ℕ)) → (let r : Result T RewindError = Err e in Commanded mid new order r before now)
+      → (let r : Result U RewindError = Err e in Commanded mid new order r (appended told x.text) now)
+  broke_by new T U WriteFault now commanded = (commanded.0, commanded.1, subst (λ t. PutsFront t now commanded.0) x.put commanded.2)
+  broke_by new T U NoMemory now commanded = (commanded.0, commanded.1 ∙ x.put)
+
+  -- those before the order had been obeyed
+  pub broke_off : (new : Rewinding) (T U : Type 0) (e : RewindError) (now : Option (List ℕ)) → (let r : Result T RewindError = Err e in Commanded mid new order r before now) → (let r : Result U RewindError = Err e in BrokeOff old new orders r told now)
+  broke_off new T U e now commanded = record {
+    before = take number orders;
+    order = order;
+    later = drop (number + 1) orders;
+    whole = sym (take-append-drop number orders) ∙ ap (λ l. take number orders ++ l) left_is;
+    middle = mid;
+    start = x.start;
+    limit = x.limit;
+    known = x.known;
+    rises = x.rises;
+    text = x.text;
+    writes = x.writes;
+    broke = broke_by new T U e now commanded;
+  }

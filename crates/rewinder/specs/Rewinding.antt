@@ -1,5 +1,5 @@
 -- What is seen of a rewinder, and what an order makes of it.
-use Rattle.std.specs.Prelude.{◌≡◌, ℕ, ◌^◌, ◌≤◌, max, Option, Result, Ok, Err, List, length, OnOk}
+use Rattle.std.specs.Prelude.{◌≡◌, ℕ, ◌^◌, ◌≤◌, max, Option, Result, Ok, Err, List, ◌∷◌, ◌++◌, length, OnOk}
 use Rattle.fuun_base.specs.declared.letters.Base.{Base}
 use Rattle.fuun_io.specs.Written.{appended, Puts, PutsFront}
 use Rattle.rewinder.specs.declared.orders.Order.{Order}
@@ -25,6 +25,16 @@ pub record IsRewinding (r : Rewinding) : Type 0 where
   pub behind : r.attempt ≤ r.reached
   pub few : r.reached ≤ most_attempts
 
+-- the version of a number exists
+pub record HasVersion (r : Rewinding) (number : ℕ) : Type 0 where
+  pub dna : List Base
+  pub version : IsVersion r.limit r.start number dna
+  pub within : length dna ≤ r.limit
+
+-- each version up to that of the greatest attempt so far exists
+abbrev pub HasVersions : Rewinding → Type 0
+HasVersions r = (number : ℕ) → number ≤ r.reached → HasVersion r number
+
 -- the order was obeyed, and this is what it writes
 pub record IsObeyed (old new : Rewinding) (order : Order) (text : List ℕ) : Type 0 where
   pub obeys : Obeys old.limit old.start order old.attempt new.attempt text
@@ -49,3 +59,18 @@ pub record AllCommanded {T E : Type 0} (old new : Rewinding) (orders : List Orde
   pub writes : Writes old.limit old.start orders old.attempt last text
   pub puts : Puts result told now text
   pub led : OnOk result (new.attempt ≡ last)
+
+-- an order was answered with an error: those before it had been obeyed, and the text of those was put
+pub record BrokeOff {T : Type 0} (old new : Rewinding) (orders : List Order) (result : Result T RewindError) (told now : Option (List ℕ)) : Type 0 where
+  pub before : List Order
+  pub order : Order
+  pub later : List Order
+  pub whole : orders ≡ before ++ order ∷ later
+  pub middle : Rewinding
+  pub start : middle.start ≡ old.start
+  pub limit : middle.limit ≡ old.limit
+  pub known : IsRewinding middle
+  pub rises : old.reached ≤ middle.reached
+  pub text : List ℕ
+  pub writes : Writes old.limit old.start before old.attempt middle.attempt text
+  pub broke : Commanded middle new order result (appended told text) now

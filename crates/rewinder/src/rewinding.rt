@@ -2,7 +2,7 @@ ghost use Rattle.std.specs.Prelude.{◌≡◌, ◌≢◌, ◌+◌, ◌-◌, ◌^
 ghost use Rattle.fuun_io.specs.Counts.{HasCause, Rose};
 ghost use Rattle.fuun_io.specs.Written.{Puts};
 ghost use Rattle.rewinder.specs.Places.{IsNearest, Moves};
-ghost use Rattle.rewinder.specs.Rewinding.{AllCommanded, Commanded, IsRefused, IsRewinding};
+ghost use Rattle.rewinder.specs.Rewinding.{AllCommanded, BrokeOff, Commanded, HasVersions, IsRefused, IsRewinding};
 ghost use Rattle.rewinder.specs.Texts.{order_text};
 ghost use Rattle.rewinder.specs.Weights.{IsKnown, OrderTicks, TicksByAnswer, TicksForScript};
 
@@ -46,7 +46,8 @@ impl<S: Strand> StrandRewinder<S> {
         requires some { 1 ≤ limit }
         requires most { limit ≤ 2 ^ 40 }
         requires within { length (S.bases dna) ≤ limit }
-        ensures { IfOk result (λ made. made ≡ record { start = S.bases dna; limit = limit; attempt = 0; dna = S.bases dna; reached = 0 }) }
+        ensures made { IfOk result (λ made. made ≡ record { start = S.bases dna; limit = limit; attempt = 0; dna = S.bases dna; reached = 0 }) }
+        ensures versions { IfOk result HasVersions }
     {
         Ok(StrandRewinder {
             versions: Versions::new(alloc, dna, limit)?,
@@ -64,9 +65,11 @@ impl<S: Strand> StrandRewinder<S> {
     }
 
     /// The greatest attempt so far.
+    #[tactic(auto, using(crate::proofs::HistoryLemmas::has_versions))]
     pub fn reached(&self) -> u64
         ensures reached { result ≡ self.now.reached }
         ensures known { IsRewinding self.now }
+        ensures versions { HasVersions self.now }
     {
         self.versions.reached()
     }
@@ -92,6 +95,7 @@ impl<S: Strand> StrandRewinder<S> {
         ensures start { self.new.start ≡ self.old.start }
         ensures limit { self.new.limit ≡ self.old.limit }
         ensures known { IsRewinding self.new }
+        ensures versions { HasVersions self.new }
         ensures fault { result ≡ Err RewindError.WriteFault → Rose (K.faults sink.old) (K.faults sink.new) }
         ensures no_fault { result ≢ Err RewindError.WriteFault → K.faults sink.new ≡ K.faults sink.old }
         ensures ticks { OrderTicks (S.height_bound self.old.limit) self.old self.new order.now result steps.old steps.new }
@@ -102,8 +106,8 @@ impl<S: Strand> StrandRewinder<S> {
         Ok(())
     }
 
-    /// Obeys orders one after the other, and writes the text of each as it is known. After an error a front of what they
-    /// write together is written.
+    /// Obeys orders one after the other, and writes the text of each as it is known. After an error the orders before the
+    /// one that failed have been obeyed and their texts written, and that one stands as `command` leaves it.
     pub fn obey_all<K: Sink, L: Ledger>(
         &mut self,
         orders: &OrderList,
@@ -111,14 +115,16 @@ impl<S: Strand> StrandRewinder<S> {
         steps: &mut Steps<L>,
     ) -> Result<(), RewindError>
         ensures commanded { AllCommanded self.old self.new orders.now result (K.bytes sink.old) (K.bytes sink.new) }
+        ensures broke { OnErr result (BrokeOff self.old self.new orders.now result (K.bytes sink.old) (K.bytes sink.new)) }
         ensures start { self.new.start ≡ self.old.start }
         ensures limit { self.new.limit ≡ self.old.limit }
         ensures known { IsRewinding self.new }
+        ensures versions { HasVersions self.new }
         ensures fault { result ≡ Err RewindError.WriteFault → Rose (K.faults sink.old) (K.faults sink.new) }
         ensures no_fault { result ≢ Err RewindError.WriteFault → K.faults sink.new ≡ K.faults sink.old }
         ensures ticks { TicksForScript (S.height_bound self.old.limit) self.old orders.now steps.old steps.new }
     {
-        let _attempt = self.attempt();
+        let _reached = self.reached();
         for order in orders.as_slice() {
             self.command(order, sink, steps)?;
         }
@@ -138,6 +144,7 @@ impl<S: Strand> StrandRewinder<S> {
         ensures start { self.new.start ≡ self.old.start }
         ensures limit { self.new.limit ≡ self.old.limit }
         ensures known { IsRewinding self.new }
+        ensures versions { HasVersions self.new }
         ensures ticks { OrderTicks (S.height_bound self.old.limit) self.old self.new order.now result steps.old steps.new }
         ensures quiet { IsKnown self.old order.now → steps.new ≡ steps.old }
     {
@@ -148,13 +155,14 @@ impl<S: Strand> StrandRewinder<S> {
                 Ok(None)
             }
             Order::Show { .. } | Order::Where => {
-                let _attempt = self.attempt();
+                let _reached = self.reached();
                 Ok(None)
             }
         }
     }
 
     /// Goes so many attempts forward, and tells why it stops short.
+    #[tactic(auto, using(crate::proofs::HistoryLemmas::has_versions))]
     fn step<L: Ledger>(
         &mut self,
         count: u64,
@@ -167,6 +175,7 @@ impl<S: Strand> StrandRewinder<S> {
         ensures start { self.new.start ≡ self.old.start }
         ensures limit { self.new.limit ≡ self.old.limit }
         ensures known { IsRewinding self.new }
+        ensures versions { HasVersions self.new }
         ensures ticks { TicksByAnswer (S.height_bound self.old.limit) self.old self.new (self.old.attempt + count) result steps.old steps.new }
         ensures quiet { self.old.attempt + count ≤ self.old.reached → steps.new ≡ steps.old }
     {
@@ -176,12 +185,14 @@ impl<S: Strand> StrandRewinder<S> {
     }
 
     /// Goes so many attempts back, at most to the start.
+    #[tactic(auto, using(crate::proofs::HistoryLemmas::has_versions))]
     fn back(&mut self, count: u64)
         ensures attempt { self.new.attempt ≡ self.old.attempt - count }
         ensures reached { self.new.reached ≡ max self.old.reached self.new.attempt }
         ensures start { self.new.start ≡ self.old.start }
         ensures limit { self.new.limit ≡ self.old.limit }
         ensures known { IsRewinding self.new }
+        ensures versions { HasVersions self.new }
     {
         let _reached = self.versions.reached();
         self.attempt = self.attempt.saturating_sub(count);

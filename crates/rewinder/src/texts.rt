@@ -10,8 +10,11 @@ use fuun_io::{Sink, WriteFault, put_all, put_pieces};
 use itoa::Buffer;
 use strand::Strand;
 
-/// How many letters are put at a time.
-const WINDOW: usize = 4096;
+/// How many letters are put at a time, where there are no more.
+const FEW: usize = 64;
+
+/// How many letters are put at a time, where there are more than a few.
+const MANY: usize = 4096;
 
 /// Writes the line of a place: the number of attempts, the length in bases, and why a step stopped there.
 pub(crate) fn put_place<K: Sink>(
@@ -66,8 +69,42 @@ fn put_letters<S: Strand, K: Sink>(
     ensures puts { Puts result (K.bytes sink.old) (K.bytes sink.new) (map letter_of (slice_range (S.bases dna.now) lo hi)) }
     ensures cause { HasCause (K.faults sink.old) (K.faults sink.new) result }
 {
-    let mut bases = [Base::I; WINDOW];
-    let mut letters = [0; WINDOW];
+    if hi.saturating_sub(lo) <= FEW as u64 {
+        put_few_letters(dna, lo, hi, sink)
+    } else {
+        put_many_letters(dna, lo, hi, sink)
+    }
+}
+
+/// Writes the letters from one place of a DNA to another, a few at a time.
+fn put_few_letters<S: Strand, K: Sink>(
+    dna: &S,
+    lo: u64,
+    hi: u64,
+    sink: &mut K,
+) -> Result<(), WriteFault>
+    requires { hi ≤ length (S.bases dna.now) }
+    ensures puts { Puts result (K.bytes sink.old) (K.bytes sink.new) (map letter_of (slice_range (S.bases dna.now) lo hi)) }
+    ensures cause { HasCause (K.faults sink.old) (K.faults sink.new) result }
+{
+    let mut bases = [Base::I; FEW];
+    let mut letters = [0; FEW];
+    put_by_windows(dna, lo, hi, &mut bases, &mut letters, sink)
+}
+
+/// Writes the letters from one place of a DNA to another, many at a time.
+fn put_many_letters<S: Strand, K: Sink>(
+    dna: &S,
+    lo: u64,
+    hi: u64,
+    sink: &mut K,
+) -> Result<(), WriteFault>
+    requires { hi ≤ length (S.bases dna.now) }
+    ensures puts { Puts result (K.bytes sink.old) (K.bytes sink.new) (map letter_of (slice_range (S.bases dna.now) lo hi)) }
+    ensures cause { HasCause (K.faults sink.old) (K.faults sink.new) result }
+{
+    let mut bases = [Base::I; MANY];
+    let mut letters = [0; MANY];
     put_by_windows(dna, lo, hi, &mut bases, &mut letters, sink)
 }
 
@@ -88,22 +125,29 @@ fn put_by_windows<S: Strand, K: Sink>(
 {
     let mut place = lo;
     while place < hi {
-        let copied = copy_letters(dna, place, bases, letters);
-        let count = (copied as u64).min(hi - place);
-        put_all(sink, &letters[..count as usize])?;
-        place += count;
+        let most = (hi - place).min(bases.len() as u64) as usize;
+        let count = copy_letters(dna, place, most, bases, letters);
+        put_all(sink, &letters[..count])?;
+        place += count as u64;
     }
     Ok(())
 }
 
-/// Writes the letters from a place on to the front of a buffer, as many as there are and fit, and answers their number.
-fn copy_letters<S: Strand>(dna: &S, place: u64, bases: &mut [Base], letters: &mut [u8]) -> usize
-    requires { length bases.old ≤ length letters.old }
-    ensures number { result ≡ min (length bases.old) (length (S.bases dna.now) - place) }
+/// Writes so many letters from a place on to the front of a buffer, or as many as there are, and answers their number.
+fn copy_letters<S: Strand>(
+    dna: &S,
+    place: u64,
+    most: usize,
+    bases: &mut [Base],
+    letters: &mut [u8],
+) -> usize
+    requires bases { most ≤ length bases.old }
+    requires letters { most ≤ length letters.old }
+    ensures number { result ≡ min most (length (S.bases dna.now) - place) }
     ensures letters { take result letters.new ≡ take result (drop place (map letter_of (S.bases dna.now))) }
     ensures same { (length bases.new ≡ length bases.old) × (length letters.new ≡ length letters.old) }
 {
-    let count = dna.copy_out(place, bases);
+    let count = dna.copy_out(place, &mut bases[..most]);
     spell(&bases[..count], letters);
     count
 }

@@ -1,7 +1,12 @@
-use Rattle.std.proofs.Common.{arith}
+use Rattle.std.proofs.Common.{◌++◌, take, drop, ap, append_assoc, arith, ◌∙◌}
 use Rattle.rewinder.proofs.RangeLemmas.{spelled}
 use Rattle.rewinder.proofs.texts.copy_letters.Goals as goal
 
 pub returns-clause-letters : goal.returns-clause-letters
 returns-clause-letters g c =
-    spelled c.copy_out-count.result c.args.place (g.S.Strand.bases c.args.dna.now) _ _ _ _ (omega (arith, c.copy_out-count.ensures.number)) c.copy_out-count.ensures.written c.spell.ensures
+    let dna = g.S.Strand.bases c.args.dna.now in
+    let count = c.copy_out-count.result in
+    let window = drop count (take c.args.most c.args.bases.now) in
+    let later = drop c.args.most c.args.bases.now in
+    spelled count c.args.place dna (c.copy_out-count.new.buf ++ later) (window ++ later) _ _ (omega (arith, c.copy_out-count.ensures.number))
+    (ap (λ l. l ++ later) c.copy_out-count.ensures.written ∙ append_assoc (take count (drop c.args.place dna)) window later) c.spell.ensures
