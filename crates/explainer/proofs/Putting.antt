@@ -1,25 +1,17 @@
 -- What templates put on cells, item by item.
-use Rattle.std.proofs.Common.{◌≡◌, ℕ, zero, suc, ◌+◌, ◌-◌, ◌<◌, ◌≤◌, Bool, true, false, not, Some, None, Result, IfOk, List, [], ◌∷◌, ◌++◌, length, get_or, take, drop, map, arith, refl, sym, ap, subst, ◌∙◌, append-nil}
-use Rattle.std.specs.Prelude.{◌||◌, slice_get, slice_range, unwrap_or}
+use Rattle.std.proofs.Common.{◌≡◌, ℕ, zero, suc, ◌+◌, ◌-◌, ◌<◌, ◌≤◌, Bool, true, false, not, Some, List, [], ◌∷◌, ◌++◌, length, get_or, take, drop, map, arith, refl, sym, ap, subst, ◌∙◌, append-nil}
+use Rattle.std.specs.Prelude.{◌||◌}
 use Rattle.std.specs.List.{flat_map}
-use Rattle.std.proofs.lemmas.List.{length-map, length-append, map-append, take_more, take_all, drop_more, take-append-drop}
+use Rattle.std.proofs.lemmas.List.{length-append, take_more, take_all, drop_more, take-append-drop}
 use Rattle.std.proofs.lemmas.Grind.{flat_map-append}
 use Rattle.fuun_base.specs.Quote.{protect}
-use Rattle.fuun_base.proofs.QuoteLemmas.{protect_of-nil}
 use Rattle.dna_items.specs.declared.items.TplItem.{TplItem}
 use Rattle.dna_items.specs.declared.items.TplItem.TheVariants.{Group}
 use Rattle.sym_strand.specs.declared.cells.Cell.{Cell}
 use Rattle.sym_strand.specs.declared.cells.Cell.TheVariants.{Known}
 use Rattle.sym_strand.specs.Cells.{all_known, known_front}
-use Rattle.explainer.specs.Replacement.{text_of, texts_of, quotes_target, depends_on_target, put_by}
+use Rattle.explainer.specs.Replacement.{text_of, quotes_target, depends_on_target, put_by}
 use Rattle.explainer.specs.Making.{PutsWhere, ReplacesWithin}
-
--- texts
-
-pub texts_more : (z : List Cell) (groups : List (ℕ × ℕ)) (k : ℕ) (group : ℕ × ℕ) → k < length groups → group ≡ get_or groups k group
-    → texts_of z (take k groups) ++ slice_range z group.0 group.1 ∷ [] ≡ texts_of z (take (k + 1) groups)
-texts_more z groups k group inside is =
-    sym (ap (texts_of z) (take_more groups k group inside ∙ ap (λ g. take k groups ++ g ∷ []) (sym is)) ∙ map-append (λ (range : ℕ × ℕ). slice_range z range.0 range.1) (take k groups) (group ∷ []))
 
 -- whether an item quotes the target
 
@@ -59,17 +51,8 @@ pub put_quoted : (texts : List (List Cell)) (n level : ℕ) → 0 < level → pu
 put_quoted texts n zero above = absurd (omega arith)
 put_quoted texts n (suc level) above = refl
 
-pub puts_same : {E : Type 0} (result : Result Bool E) (room : ℕ) (old new text text' : List Cell) → text ≡ text' → IfOk result (λ fits. PutsWhere fits room old new text) → IfOk result (λ fits. PutsWhere fits room old new text')
-puts_same result room old new text text' same x = subst (λ t. IfOk result (λ fits. PutsWhere fits room old new t)) same x
-
-pub no_text : (texts : List (List Cell)) (n : ℕ) → slice_get texts n ≡ None → text_of texts n ≡ []
-no_text texts n none = ap (λ o. unwrap_or o []) none
-
-pub some_text : (texts : List (List Cell)) (n : ℕ) (text : List Cell) → slice_get texts n ≡ Some text → text_of texts n ≡ text
-some_text texts n text some = ap (λ o. unwrap_or o []) some
-
-pub quoted_nothing : (texts : List (List Cell)) (n level : ℕ) → slice_get texts n ≡ None → map Known [] ≡ map Known (protect level (known_front (text_of texts n)))
-quoted_nothing texts n level none = ap (map Known) (sym (protect_of-nil level)) ∙ ap (λ t. map Known (protect level (known_front t))) (sym (no_text texts n none))
+pub puts_alike : (fits : Bool) (room : ℕ) (old new : List Cell) (texts texts' : List (List Cell)) (item : TplItem) → texts ≡ texts' → PutsWhere fits room old new (put_by texts item) → PutsWhere fits room old new (put_by texts' item)
+puts_alike fits room old new texts texts' item same x = subst (λ t. PutsWhere fits room old new (put_by t item)) same x
 
 -- items so far
 
@@ -108,9 +91,3 @@ all_put texts items k limit cells tail next all so_far within room is =
 pub puts_not : (fits : Bool) (room : ℕ) (old new text : List Cell) → fits ≡ false → PutsWhere fits room old new text → room < length text
 puts_not false room old new text e x = x
 puts_not true room old new text e x = cc
-
-pub quoted_past : (texts : List (List Cell)) (n level room : ℕ) (text : List Cell) → slice_get texts n ≡ Some text → room < length (protect level (known_front text))
-    → room < length (map Known (protect level (known_front (text_of texts n))))
-quoted_past texts n level room text some past =
-    let same : text_of texts n ≡ text = some_text texts n text some in
-    omega (arith, length-map (protect level (known_front (text_of texts n))) Known, ap (λ t. length (protect level (known_front t))) same)

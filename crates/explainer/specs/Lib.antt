@@ -2,6 +2,7 @@ pub mod Filling
 pub mod Windows
 pub mod Leading
 pub mod Replacement
+pub mod Cuts
 pub mod Attempt
 pub mod Run
 pub mod Laws

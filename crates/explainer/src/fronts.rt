@@ -1,11 +1,13 @@
-ghost use Rattle.std.specs.Prelude.{◌≡◌, ◌+◌, ◌<◌, ◌≤◌, ◌^◌, ◌++◌, [], ◌∷◌, length, map, false, slice_get, IfOk, OnOk, MatchOption};
-ghost use Rattle.std.specs.Option.{option_copied};
+//! What stands of the next cells.
+
+ghost use Rattle.std.specs.Prelude.{◌≡◌, ◌+◌, ◌<◌, ◌≤◌, ◌^◌, ◌++◌, [], ◌∷◌, length, map, false, IfOk, OnOk, MatchOption};
 ghost use Rattle.fuun_base.specs.Quote.{asnat, protect};
 ghost use Rattle.sym_strand.specs.Cells.{all_known, known_front};
 ghost use Rattle.sym_strand.specs.declared.cells.Cell.TheVariants.{Known};
 ghost use Rattle.explainer.specs.Making.{cells_of, PutsWhere};
 ghost use Rattle.explainer.specs.Replacement.{text_of, put_by, quotes_target};
 
+use crate::texts::Texts;
 use cell_rope::CellRope;
 use dna_items::TplItem;
 use fuun_base::{Base, NoMemory, Steps, asnat_into};
@@ -71,14 +73,15 @@ impl Front {
     pub(crate) fn put<L: Ledger>(
         &mut self,
         alloc: Global,
-        texts: &[CellRope],
+        texts: &mut Texts<'_>,
         item: TplItem,
         room: u64,
         steps: &mut Steps<L>,
     ) -> Result<bool, NoMemory>
-        requires known { quotes_target texts.now item ≡ false }
+        requires known { quotes_target texts.old item ≡ false }
         requires room { length (cells_of self.old) + room ≤ 2 ^ 40 }
-        ensures { IfOk result (λ fits. PutsWhere fits room (cells_of self.old) (cells_of self.new) (put_by texts.now item)) }
+        ensures puts { IfOk result (λ fits. PutsWhere fits room (cells_of self.old) (cells_of self.new) (put_by texts.old item)) }
+        ensures same { texts.new ≡ texts.old }
     {
         match item {
             TplItem::Base(base) => self.put_bases(&[base], room),
@@ -106,18 +109,17 @@ impl Front {
     fn put_group<L: Ledger>(
         &mut self,
         alloc: Global,
-        texts: &[CellRope],
+        texts: &mut Texts<'_>,
         n: u64,
         room: u64,
         steps: &mut Steps<L>,
     ) -> Result<bool, NoMemory>
         requires { length (cells_of self.old) + room ≤ 2 ^ 40 }
-        ensures { IfOk result (λ fits. PutsWhere fits room (cells_of self.old) (cells_of self.new) (text_of texts.now n)) }
+        ensures puts { IfOk result (λ fits. PutsWhere fits room (cells_of self.old) (cells_of self.new) (text_of texts.old n)) }
+        ensures same { texts.new ≡ texts.old }
     {
-        match text_at(texts, n) {
-            None => Ok(true),
-            Some(text) => self.put_cells(alloc, text, room, steps),
-        }
+        let text = texts.text(n, steps)?;
+        self.put_cells(alloc, &text, room, steps)
     }
 
     fn put_cells<L: Ledger>(
@@ -133,6 +135,9 @@ impl Front {
         if text.len() > room {
             return Ok(false);
         }
+        if text.len() == 0 {
+            return Ok(true);
+        }
         self.settle(alloc, steps)?;
         self.done = CellRope::join(&self.done, text, steps)?;
         Ok(true)
@@ -141,32 +146,31 @@ impl Front {
     fn put_quoted<L: Ledger>(
         &mut self,
         alloc: Global,
-        texts: &[CellRope],
+        texts: &mut Texts<'_>,
         n: u64,
         level: u64,
         room: u64,
         steps: &mut Steps<L>,
     ) -> Result<bool, NoMemory>
         requires { length (cells_of self.old) + room ≤ 2 ^ 40 }
-        ensures { IfOk result (λ fits. PutsWhere fits room (cells_of self.old) (cells_of self.new)
-            (map Known (protect level (known_front (text_of texts.now n))))) }
+        ensures puts { IfOk result (λ fits. PutsWhere fits room (cells_of self.old) (cells_of self.new)
+            (map Known (protect level (known_front (text_of texts.old n))))) }
+        ensures same { texts.new ≡ texts.old }
     {
-        match text_at(texts, n) {
-            None => self.put_bases(&[], room),
-            Some(text) => match quoted(text, level, room, steps)? {
-                None => Ok(false),
-                Some(bases) => {
-                    let bases = CellRope::of_known(alloc, bases)?;
-                    self.put_cells(alloc, &bases, room, steps)
-                }
-            },
+        let text = texts.text(n, steps)?;
+        match quoted(&text, level, room, steps)? {
+            None => Ok(false),
+            Some(bases) => {
+                let bases = CellRope::of_known(alloc, bases)?;
+                self.put_cells(alloc, &bases, room, steps)
+            }
         }
     }
 
     fn put_len(
         &mut self,
         alloc: Global,
-        texts: &[CellRope],
+        texts: &Texts<'_>,
         n: u64,
         room: u64,
     ) -> Result<bool, NoMemory>
@@ -174,23 +178,8 @@ impl Front {
             (map Known (asnat (length (text_of texts.now n))))) }
     {
         let mut number = Vec::new(alloc);
-        asnat_into(text_len(texts, n), &mut number)?;
+        asnat_into(texts.len_of(n), &mut number)?;
         self.put_bases(number.as_slice(), room)
-    }
-}
-
-fn text_at(texts: &[CellRope], n: u64) -> Option<&CellRope>
-    ensures { option_copied result ≡ slice_get texts.now n }
-{
-    texts.get(n as usize)
-}
-
-fn text_len(texts: &[CellRope], n: u64) -> u64
-    ensures { result ≡ length (text_of texts.now n) }
-{
-    match texts.get(n as usize) {
-        None => 0,
-        Some(text) => text.len(),
     }
 }
 

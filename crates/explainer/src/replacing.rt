@@ -1,3 +1,5 @@
+//! What a template puts in the place of what was matched.
+
 ghost use Rattle.std.specs.Prelude.{◌≡◌, ◌≤◌, ◌^◌, false, drop, length, All, IfOk};
 ghost use Rattle.matcher.specs.Found.{LiesWithin};
 ghost use Rattle.explainer.specs.Making.{ReplacesWithin, PutsSo};
@@ -5,7 +7,7 @@ ghost use Rattle.explainer.specs.Replacement.{texts_of, depends_on_target};
 
 use crate::attempt::Next;
 use crate::fronts::Front;
-use crate::texts::{depends, texts};
+use crate::texts::{Texts, depends};
 use cell_rope::CellRope;
 use dna_items::TplItem;
 use fuun_base::{NoMemory, Steps};
@@ -28,12 +30,12 @@ pub(crate) fn put<L: Ledger>(
     requires within { length dna.now ≤ limit }
     ensures { IfOk result (PutsSo (texts_of dna.now groups.now) items.now (drop stop dna.now) limit) }
 {
-    let texts = texts(alloc, dna, groups, steps)?;
-    if depends(texts.as_slice(), items) {
+    let mut texts = Texts::new(alloc, dna, groups);
+    if depends(&mut texts, items, steps)? {
         return Ok(Next::Depends);
     }
     let tail = dna.sub(stop, dna.len(), steps)?;
-    match replace(alloc, texts.as_slice(), items, &tail, limit, steps)? {
+    match replace(alloc, &mut texts, items, &tail, limit, steps)? {
         None => Ok(Next::TooLong),
         Some(next) => Ok(Next::Cells(next)),
     }
@@ -41,16 +43,16 @@ pub(crate) fn put<L: Ledger>(
 
 fn replace<L: Ledger>(
     alloc: Global,
-    texts: &[CellRope],
+    texts: &mut Texts<'_>,
     items: &[TplItem],
     tail: &CellRope,
     limit: u64,
     steps: &mut Steps<L>,
 ) -> Result<Option<CellRope>, NoMemory>
-    requires known { depends_on_target texts.now items.now ≡ false }
+    requires known { depends_on_target texts.old items.now ≡ false }
     requires limit { limit ≤ 2 ^ 40 }
     requires within { length tail.now ≤ limit }
-    ensures { IfOk result (ReplacesWithin texts.now items.now tail.now limit) }
+    ensures { IfOk result (ReplacesWithin texts.old items.now tail.now limit) }
 {
     let most = limit - tail.len();
     let mut front = Front::new(alloc)?;

@@ -6,6 +6,7 @@ use Rattle.explainer.proofs.replacing.replace.Given as goal
 
 abbrev pub invariant-loop-item : goal.invariant-loop-item
 invariant-loop-item g l = record {
-  cells : cells_of l.front ≡ flat_map (put_by l.texts) (take l.item-index l.items);
+  same : l.texts ≡ l.fn.texts;
+  cells : cells_of l.front ≡ flat_map (put_by l.fn.texts) (take l.item-index l.items);
   within : length (cells_of l.front) ≤ l.most;
 }

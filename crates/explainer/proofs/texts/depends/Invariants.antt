@@ -3,4 +3,7 @@ use Rattle.explainer.specs.Replacement.{depends_on_target}
 use Rattle.explainer.proofs.texts.depends.Given as goal
 
 abbrev pub invariant-loop-item : goal.invariant-loop-item
-invariant-loop-item l = depends_on_target l.texts l.items ≡ depends_on_target l.texts (drop l.item-index l.items)
+invariant-loop-item g l = record {
+  same : l.texts ≡ l.fn.texts;
+  rest : depends_on_target l.fn.texts l.items ≡ depends_on_target l.fn.texts (drop l.item-index l.items);
+}
