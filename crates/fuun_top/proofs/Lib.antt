@@ -17,3 +17,4 @@ pub mod ChainedPatches
 pub mod ExplainedPatches
 pub mod ChainedListing
 pub mod ChainedPicture
+pub mod CarriedLoads

@@ -66,7 +66,7 @@ prefix_light most (row ∷ rows) light small =
     omega (arith, here, behind_it, length-append (row_code row (length (prefix rows))) (prefix rows))
 
 -- the prefix of a load: at most 65 bases a round
-prefix_short : (seed size rounds : ℕ) → size ≤ 2 ^ 24 → rounds ≤ 2 ^ 16 → length (prefix (patches_of seed size rounds).rows) ≤ 65 * rounds
+pub prefix_short : (seed size rounds : ℕ) → size ≤ 2 ^ 24 → rounds ≤ 2 ^ 16 → length (prefix (patches_of seed size rounds).rows) ≤ 65 * rounds
 unfolding patches_of
 prefix_short seed size rounds small few =
     let counted = length-rows_drawn rounds size (behind size seed) in
@@ -74,7 +74,7 @@ prefix_short seed size rounds small few =
     let short = prefix_light (size + 7 * rounds) _ light (omega (arith, counted, small, few)) in
     omega (arith, counted, short)
 
-target_counted : (seed size : ℕ) → length (target_of seed size) ≡ size
+pub target_counted : (seed size : ℕ) → length (target_of seed size) ≡ size
 unfolding target_of
 target_counted seed size = length-bases_drawn size seed
 

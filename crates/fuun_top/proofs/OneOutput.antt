@@ -30,7 +30,7 @@ use Rattle.fuun_top.specs.Output.{Output, Body, Text, Drawing, IsBody, IsRunOutp
 use Rattle.fuun_top.specs.Making.{IsExplanation, IsMade, assemble_refusal, drawn, explain_refusal, patch_prefix, told}
 use Rattle.fuun_top.specs.Bench.{load_dna, load_limit, summary_of}
 use Rattle.fuun_top.specs.OutputLaws.{IsTold, AreTold, HasOutput, HasOneOutput}
-use Rattle.fuun_top.specs.Reading.{Files, Reading, then_read, within, bytes_in, dna_in, judged_dna, prefix_in, prefix_files, files_of, rna_in, judged_rna, start_in, text_file, script_in, judged_script, guided_in, with_prefix, inputs_of}
+use Rattle.fuun_top.specs.Reading.{Files, Reading, then_read, within, bytes_in, dna_in, judged_dna, Called, prefix_in, prefix_files, run_files, files_of, rna_in, judged_rna, start_in, text_file, script_in, judged_script, guided_in, guiding_files, inputs_of}
 use Rattle.fuun_top.specs.Asked.{sorted}
 use Rattle.fuun_top.specs.declared.request.Asked.{Asked}
 use Rattle.fuun_top.specs.declared.request.Asked.TheVariants.{Run as asked_run, Trace as asked_trace, Rna as asked_rna, Listing as asked_listing, Text as asked_text, Explain as asked_explain, Rewind as asked_rewind, Bench as asked_bench}
@@ -190,11 +190,15 @@ rna_known files name told =
     then_known (bytes_in files file.Rna name) (λ contents. Some (judged_rna contents)) (bytes_known files file.Rna name told)
     (λ contents. (judged_rna contents, refl))
 
-prefix_known : (files : Files) (prefix : Option (List ℕ)) → AllByRecursion (IsTold files) (prefix_files prefix) → Known (prefix_in files prefix)
+-- the contents of each file are told
+abbrev Each : Files → List Called → Type 0
+Each files called = AllByRecursion (λ file. IsTold files file.1) called
+
+prefix_known : (files : Files) (prefix : Option (List ℕ)) → Each files (prefix_files prefix) → Known (prefix_in files prefix)
 prefix_known files None told = (_, refl)
 prefix_known files (Some name) told = dna_known files file.Prefix name told.0
 
-start_known : (files : Files) (words : RunWords) → AllByRecursion (IsTold files) (words.dna ∷ prefix_files words.prefix) → Known (start_in files words)
+start_known : (files : Files) (words : RunWords) → Each files (run_files words) → Known (start_in files words)
 start_known files words told =
     then_known (dna_in files file.Dna words.dna) _ (dna_known files file.Dna words.dna told.0) (λ dna.
     then_known (prefix_in files words.prefix) _ (prefix_known files words.prefix told.1) (λ prefix. (_, refl)))
@@ -204,13 +208,13 @@ script_known files name told =
     then_known (bytes_in files file.Script name) (λ contents. Some (judged_script contents)) (bytes_known files file.Script name told)
     (λ contents. (judged_script contents, refl))
 
-guided_known : (files : Files) (prefix : Option (List ℕ)) (script : List ℕ) → AllByRecursion (IsTold files) (with_prefix prefix (script ∷ [])) → Known (guided_in files prefix script)
+guided_known : (files : Files) (prefix : Option (List ℕ)) (script : List ℕ) → Each files (guiding_files prefix script) → Known (guided_in files prefix script)
 guided_known files None script told = then_known (script_in files script) _ (script_known files script told.0) (λ orders. (_, refl))
 guided_known files (Some name) script told =
     then_known (dna_in files file.Prefix name) _ (dna_known files file.Prefix name told.0) (λ bases.
     then_known (script_in files script) _ (script_known files script told.1.0) (λ orders. (_, refl)))
 
-inputs_known : (files : Files) (asked : Asked) → AllByRecursion (IsTold files) (files_of asked) → Known (inputs_of files asked)
+inputs_known : (files : Files) (asked : Asked) → Each files (files_of asked) → Known (inputs_of files asked)
 inputs_known files (asked_run verb words) told =
     then_known (start_in files words) (λ dna. Some (Ok (inputs.Run verb dna words.budget words.limit))) (start_known files words told) (λ dna. (_, refl))
 inputs_known files (asked_trace words) told =

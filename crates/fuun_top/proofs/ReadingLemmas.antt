@@ -1,8 +1,8 @@
 -- A reading that was refused.
-use Rattle.std.proofs.Common.{◌≡◌, ◌⊎◌, inl, inr, ℕ, Some, None, Result, Ok, Err, List, IfSome, subst, arith, ◌∙◌}
+use Rattle.std.proofs.Common.{◌≡◌, ◌⊎◌, inl, inr, ℕ, Some, None, Result, Ok, Err, List, [], ◌∷◌, IfSome, subst, arith, ◌∙◌}
 use Rattle.fuun_top.specs.declared.status.Status.{Status}
 use Rattle.fuun_top.specs.declared.status.Status.TheVariants.{ReadFault, NoMemory}
-use Rattle.fuun_top.specs.Reading.{Files, Reading, then_read}
+use Rattle.fuun_top.specs.Reading.{Called, Files, Reading, then_read}
 use Rattle.fuun_top.specs.ReadingRoom.{Reads}
 
 -- the answer is what is known to be read, or memory was wanted, or a read failed
@@ -27,9 +27,9 @@ refusal_agrees (Some (Ok value)) next status (inr (inl e)) = want_agrees (next v
 refusal_agrees (Some (Ok value)) next status (inr (inr e)) = fault_agrees (next value) status (cc e)
 
 -- what comes behind it is refused too
-pub reads_refused : {A B : Type 0} (files : Files) (names more : List (List ℕ)) (known : Reading A) (next : A → Reading B) (status : Status) (given_old given_new faults_old faults_new : ℕ)
-    → Reads files names known (Err status) given_old given_new faults_old faults_new → Reads files more (then_read known next) (Err status) given_old given_new faults_old faults_new
-reads_refused files names more known next status given_old given_new faults_old faults_new reads = record {
+pub reads_refused : {A B : Type 0} (files : Files) (called : List Called) (known : Reading A) (next : A → Reading B) (status : Status) (given_old given_new faults_old faults_new : ℕ)
+    → Reads files called known (Err status) given_old given_new faults_old faults_new → Reads files called (then_read known next) (Err status) given_old given_new faults_old faults_new
+reads_refused files called known next status given_old given_new faults_old faults_new reads = record {
   agrees = refusal_agrees known next status reads.agrees;
   refused = reads.refused;
   given = tt;
@@ -52,17 +52,17 @@ second_agrees {A} (Some (Ok read)) value next last status (inl e) second =
 second_agrees (Some (Ok read)) value next last status (inr (inl e)) second = absurd (cc e)
 second_agrees (Some (Ok read)) value next last status (inr (inr e)) second = absurd (cc e)
 
-pub reads_refused_behind : {A B C : Type 0} (files : Files) (names more all : List (List ℕ)) (known : Reading A) (value : A) (next : A → Reading B) (last : A → B → Reading C) (status : Status)
+pub reads_refused_behind : {A B C : Type 0} (files : Files) (called : Called) (more : List Called) (known : Reading A) (value : A) (next : A → Reading B) (last : A → B → Reading C) (status : Status)
     (given_old given_mid given_new faults_old faults_mid faults_new : ℕ)
-    → Reads files names known (Ok value) given_old given_mid faults_old faults_mid → Reads files more (next value) (Err status) given_mid given_new faults_mid faults_new
-    → Reads files all (then_read known (λ a. then_read (next a) (last a))) (Err status) given_old given_new faults_old faults_new
-reads_refused_behind files names more all known value next last status given_old given_mid given_new faults_old faults_mid faults_new first second =
+    → Reads files (called ∷ []) known (Ok value) given_old given_mid faults_old faults_mid → Reads files more (next value) (Err status) given_mid given_new faults_mid faults_new
+    → Reads files (called ∷ more) (then_read known (λ a. then_read (next a) (last a))) (Err status) given_old given_new faults_old faults_new
+reads_refused_behind files called more known value next last status given_old given_mid given_new faults_old faults_mid faults_new first second =
     let kept : faults_mid ≡ faults_old = first.no_fault (λ e. cc e) in
     record {
       agrees = second_agrees known value next last status first.agrees second.agrees;
       refused = second.refused;
       given = tt;
-      too_long = λ file e. omega (arith, second.too_long file (cc e), first.rises);
+      too_long = λ file e. inr (given_mid, omega (arith, first.given), second.too_long file (cc e));
       rises = omega (arith, first.rises, second.rises);
       fault = λ e. omega (arith, kept, second.fault (cc e));
       no_fault = λ other. second.no_fault (λ e. other (cc e)) ∙ kept;

@@ -1,16 +1,22 @@
 -- The two rooms together: what was read and what was written, against the output of the words.
-use Rattle.std.proofs.Common.{◌≡◌, ◌⊎◌, inl, inr, ℕ, Option, Some, None, Result, Ok, Err, List, [], ◌∷◌, ◌++◌, IfSome, refl, sym, ap, ◌∙◌, subst}
+use Rattle.std.proofs.Common.{◌≡◌, ◌⊎◌, inl, inr, ℕ, true, Option, Some, None, Result, Ok, Err, List, [], ◌∷◌, ◌++◌, IfSome, refl, sym, ap, ◌∙◌, subst}
+use Rattle.std.proofs.lemmas.Bool.{false≢true}
 use Rattle.fuun_io.specs.Counts.{Rose}
 use Rattle.fuun_io.specs.Written.{appended, PutsFront}
 use Rattle.fuun_io.proofs.WrittenLemmas.{appended-nil, PutsFront-all, PutsFront-none}
 use Rattle.fuun_top.specs.declared.inputs.Inputs.{Inputs}
+use Rattle.fuun_top.specs.declared.inputs.Inputs.TheVariants as inputs
+use Rattle.fuun_top.specs.declared.status.InFile.{InFile}
 use Rattle.fuun_top.specs.declared.status.Status.{Status}
-use Rattle.fuun_top.specs.declared.status.Status.TheVariants.{ReadFault, WriteFault, NoMemory}
-use Rattle.fuun_top.specs.Answer.{AnswersOrFails, Grows}
-use Rattle.fuun_top.specs.Output.{Output, IsOutputOf, OutputBy, OutputOf}
+use Rattle.fuun_top.specs.declared.status.Status.TheVariants.{Done, TooLong, InputTooLong, ReadFault, WriteFault, NoMemory}
+use Rattle.fuun_top.specs.Answer.{AnswersOrFails, Grows, IsUnmade, is_made_first}
+use Rattle.fuun_top.specs.Output.{Output, IsOutputOf, OutputBy, OutputOf, answered}
 use Rattle.fuun_top.specs.Asked.{sorted}
 use Rattle.fuun_top.specs.declared.request.Asked.{Asked}
 use Rattle.fuun_top.specs.Reading.{Files, Reading, inputs_of}
+use Rattle.fuun_top.specs.ReadingRoom.{are_made_first}
+use Rattle.fuun_top.specs.Texts.{letters}
+use Rattle.explainer.specs.Lines.{explained_text}
 use Rattle.fuun_words.specs.declared.request.Request.{Request}
 use Rattle.fuun_top.specs.Stages.{ByOutput, stage_of, Stage, ByWords, ByReading, ByContents, ByWriting, ByMemory, IsAfterReading, IsBeforeOutput, IsOfInputs, IsOfOutput, IsRefusal}
 use Rattle.fuun_top.specs.WritingRoom.{Wrote, Whole, CutOff, SpentRoom, NoRoom}
@@ -122,6 +128,10 @@ wrote_stage inputs result old new before after (CutOff written is fault front ro
 wrote_stage inputs result old new before after (SpentRoom written is memory front kept) = subst (λ s. IsAfterReading (stage_of s)) (sym memory) tt
 wrote_stage inputs result old new before after (NoRoom memory same kept) = subst (λ s. IsAfterReading (stage_of s)) (sym memory) tt
 
+-- no file is too long by then
+pub wrote_not_long : (inputs : Inputs) (result : Status) (old new : Option (List ℕ)) (before after : ℕ) (file : InFile) → Wrote (IsOutputOf inputs) result old new before after → result ≡ InputTooLong file → ⊥
+wrote_not_long inputs result old new before after file wrote long = subst (λ s. IsAfterReading (stage_of s)) long (wrote_stage inputs result old new before after wrote)
+
 -- a fault of writing was counted
 pub wrote_fault : (inputs : Inputs) (result : Status) (old new : Option (List ℕ)) (before after : ℕ) → Wrote (IsOutputOf inputs) result old new before after → result ≡ WriteFault → Rose before after
 wrote_fault inputs result old new before after (Whole written is status put kept) fault =
@@ -139,3 +149,32 @@ wrote_grows Is result old new before after (Whole written is status put kept) = 
 wrote_grows Is result old new before after (CutOff written is fault front rose) = (front.front, front.put)
 wrote_grows Is result old new before after (SpentRoom written is memory front kept) = (front.front, front.put)
 wrote_grows Is result old new before after (NoRoom memory same kept) = ([], same ∙ sym (appended-nil old))
+
+-- what is made first is made whole, or a refusal that writes nothing comes in its place
+answer_none : {A : Type 0} (text : A → List ℕ) (made : Result A Status) (output : Output) (attempt : ℕ) → output ≡ answered text made → output.status ≡ TooLong attempt → output.bytes ≡ []
+answer_none text (Ok value) output attempt is long = let e : Done ≡ TooLong attempt = sym (ap (λ (o : Output). o.status) is) ∙ long in cc
+answer_none text (Err status) output attempt is long = ap (λ (o : Output). o.bytes) is
+
+output_none : (inputs : Inputs) (output : Output) (attempt : ℕ) → are_made_first inputs ≡ true → IsOutputOf inputs output → output.status ≡ TooLong attempt → output.bytes ≡ []
+output_none (inputs.Run verb dna budget limit) output attempt first is long = absurd (false≢true first)
+output_none (inputs.Trace dna budget limit) output attempt first is long = absurd (false≢true first)
+output_none (inputs.Plain plain) output attempt first is long = absurd (false≢true first)
+output_none (inputs.Listing dna count) output attempt first is long = absurd (false≢true first)
+output_none (inputs.Explain prefix len attempts limit) output attempt first is long = answer_none explained_text is.made output attempt is.tells long
+output_none (inputs.Rewind dna orders limit) output attempt first is long = absurd (false≢true first)
+output_none (inputs.Text verb text) output attempt first is long = answer_none letters is.made output attempt is.tells long
+output_none (inputs.Bench seed size rounds) output attempt first is long = absurd (false≢true first)
+
+wrote_none : (inputs : Inputs) (result : Status) (old new : Option (List ℕ)) (before after attempt : ℕ) → Wrote (IsOutputOf inputs) result old new before after → are_made_first inputs ≡ true
+    → result ≡ TooLong attempt → new ≡ old
+wrote_none inputs result old new before after attempt (Whole written is status put kept) first long =
+    put ∙ ap (appended old) (output_none inputs written attempt first is (sym status ∙ long)) ∙ appended-nil old
+wrote_none inputs result old new before after attempt (CutOff written is fault front rose) first long = absurd (cc (fault, long))
+wrote_none inputs result old new before after attempt (SpentRoom written is memory front kept) first long = absurd (cc (memory, long))
+wrote_none inputs result old new before after attempt (NoRoom memory same kept) first long = same
+
+pub wrote_unmade : (found : Option Request) (request : Request) (asked : Asked) (inputs : Inputs) (result : Status) (old new : Option (List ℕ)) (before after : ℕ)
+    → found ≡ Some request → asked ≡ sorted request → are_made_first inputs ≡ is_made_first asked → Wrote (IsOutputOf inputs) result old new before after → IsUnmade found result → new ≡ old
+wrote_unmade found request asked inputs result old new before after taken is kind wrote unmade =
+    let (first, (attempt, long)) = subst (λ f. IsUnmade f result) taken unmade in
+    wrote_none inputs result old new before after attempt wrote (kind ∙ ap is_made_first is ∙ first) long

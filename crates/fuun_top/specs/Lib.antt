@@ -14,3 +14,4 @@ pub mod Steps
 pub mod Chaining
 pub mod RunChains
 pub mod MadeChains
+pub mod BenchLaws

@@ -111,7 +111,7 @@ pub record IsListingOutput (dna : List Base) (count : ℕ) (output : Output) : T
   pub lists : IsListing dna count text
   pub is : output ≡ record { status = Done; bytes = text }
 
--- the output is what is told of the run on a load, whatever ended it: an attempt for each of its patches
+-- the output is what is told of the run on a load, with a budget of an attempt for each of its patches
 pub record IsBenchOutput (seed size rounds : ℕ) (output : Output) : Type 0 where
   pub run : Run
   pub is : IsRun (load_dna seed size rounds) rounds load_limit run

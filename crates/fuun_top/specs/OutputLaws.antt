@@ -14,7 +14,7 @@ IsTold files name = (contents : List ℕ) × (files name ≡ Some contents)
 -- the contents of each file that is asked for are told
 abbrev pub AreTold : Files → Option Request → Type 0
 AreTold files None = Unit {0}
-AreTold files (Some asked) = AllByRecursion (IsTold files) (files_of (sorted asked))
+AreTold files (Some asked) = AllByRecursion (λ file. IsTold files file.1) (files_of (sorted asked))
 
 -- where the files are told, words have an output
 abbrev pub HasOutput : Type 0

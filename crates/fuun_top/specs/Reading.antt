@@ -29,14 +29,18 @@ Files = List ℕ → Option (List ℕ)
 abbrev pub most_bytes : ℕ
 most_bytes = 2 ^ 26
 
--- the name of the prefix file, where there is one
-abbrev pub prefix_files : Option (List ℕ) → List (List ℕ)
-prefix_files None = []
-prefix_files (Some name) = name ∷ []
+-- a file that is read: what it is called, and its name
+abbrev pub Called : Type 0
+Called = InFile × List ℕ
 
--- the names of the files of a run
-abbrev pub run_files : RunWords → List (List ℕ)
-run_files words = words.dna ∷ prefix_files words.prefix
+-- the prefix file, where there is one
+abbrev pub prefix_files : Option (List ℕ) → List Called
+prefix_files None = []
+prefix_files (Some name) = (file.Prefix, name) ∷ []
+
+-- the files of a run
+abbrev pub run_files : RunWords → List Called
+run_files words = (file.Dna, words.dna) ∷ prefix_files words.prefix
 
 -- what a text of which DNA is made is called
 abbrev pub text_file : TextVerb → InFile
@@ -44,23 +48,23 @@ text_file (text.Patch limit) = file.Patch
 text_file text.Assemble = file.Text
 text_file (text.Picture limit) = file.Ppm
 
--- the name of the prefix file, where there is one, and then these
-abbrev pub with_prefix : Option (List ℕ) → List (List ℕ) → List (List ℕ)
-with_prefix None names = names
-with_prefix (Some name) names = name ∷ names
+-- the prefix file, where there is one, and then the script
+abbrev pub guiding_files : Option (List ℕ) → List ℕ → List Called
+guiding_files None script = (file.Script, script) ∷ []
+guiding_files (Some name) script = (file.Prefix, name) ∷ (file.Script, script) ∷ []
 
--- the names of the files of a run that a script goes through
-abbrev pub rewind_files : RewindWords → List (List ℕ)
-rewind_files words = words.dna ∷ with_prefix words.prefix (words.script ∷ [])
+-- the files of a run that a script goes through
+abbrev pub rewind_files : RewindWords → List Called
+rewind_files words = (file.Dna, words.dna) ∷ guiding_files words.prefix words.script
 
--- the names of the files that are read, in order
-abbrev pub files_of : Asked → List (List ℕ)
+-- the files that are read, in order
+abbrev pub files_of : Asked → List Called
 files_of (Run verb words) = run_files words
 files_of (Trace words) = run_files words
-files_of (Rna verb name) = name ∷ []
-files_of (Listing name count) = name ∷ []
-files_of (Text verb name) = name ∷ []
-files_of (Explain words) = words.prefix ∷ []
+files_of (Rna verb name) = (file.Rna, name) ∷ []
+files_of (Listing name count) = (file.Dna, name) ∷ []
+files_of (Text verb name) = (text_file verb, name) ∷ []
+files_of (Explain words) = (file.Prefix, words.prefix) ∷ []
 files_of (Rewind words) = rewind_files words
 files_of (Bench seed size rounds) = []
 

@@ -23,7 +23,7 @@ pub(crate) fn file_bytes<F: Folder>(
 ) -> Result<List<u8>, Status>
     requires { IsTrue (F.allows folder.old name.now) }
     ensures most { IfOk result (λ bytes. length bytes ≤ most_bytes) }
-    ensures reads { Reads (F.contents folder.old) (name.now ∷ []) (bytes_in (F.contents folder.old) file name.now)
+    ensures reads { Reads (F.contents folder.old) ((file, name.now) ∷ []) (bytes_in (F.contents folder.old) file name.now)
         result (F.given folder.old) (F.given folder.new) (F.faults folder.old) (F.faults folder.new) }
     ensures same_contents { F.contents folder.new ≡ F.contents folder.old }
     ensures same_names { F.allows folder.new ≡ F.allows folder.old }
@@ -68,7 +68,7 @@ pub(crate) fn dna_file<F: Folder>(
 ) -> Result<BaseList, Status>
     requires { IsTrue (F.allows folder.old name.now) }
     ensures most { IfOk result (λ dna. length dna ≤ most_bytes) }
-    ensures reads { Reads (F.contents folder.old) (name.now ∷ []) (dna_in (F.contents folder.old) file name.now)
+    ensures reads { Reads (F.contents folder.old) ((file, name.now) ∷ []) (dna_in (F.contents folder.old) file name.now)
         result (F.given folder.old) (F.given folder.new) (F.faults folder.old) (F.faults folder.new) }
     ensures same_contents { F.contents folder.new ≡ F.contents folder.old }
     ensures same_names { F.allows folder.new ≡ F.allows folder.old }
@@ -105,7 +105,7 @@ pub(crate) fn rna_file<F: Folder>(
     name: &str,
 ) -> Result<CommandList, Status>
     requires { IsTrue (F.allows folder.old name.now) }
-    ensures reads { Reads (F.contents folder.old) (name.now ∷ []) (rna_in (F.contents folder.old) name.now)
+    ensures reads { Reads (F.contents folder.old) ((InFile.Rna, name.now) ∷ []) (rna_in (F.contents folder.old) name.now)
         result (F.given folder.old) (F.given folder.new) (F.faults folder.old) (F.faults folder.new) }
     ensures same_contents { F.contents folder.new ≡ F.contents folder.old }
     ensures same_names { F.allows folder.new ≡ F.allows folder.old }
@@ -135,7 +135,7 @@ pub(crate) fn script_file<F: Folder>(
     name: &str,
 ) -> Result<OrderList, Status>
     requires { IsTrue (F.allows folder.old name.now) }
-    ensures reads { Reads (F.contents folder.old) (name.now ∷ []) (script_in (F.contents folder.old) name.now)
+    ensures reads { Reads (F.contents folder.old) ((InFile.Script, name.now) ∷ []) (script_in (F.contents folder.old) name.now)
         result (F.given folder.old) (F.given folder.new) (F.faults folder.old) (F.faults folder.new) }
     ensures same_contents { F.contents folder.new ≡ F.contents folder.old }
     ensures same_names { F.allows folder.new ≡ F.allows folder.old }

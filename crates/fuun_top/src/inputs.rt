@@ -1,9 +1,9 @@
 // The reading room: from a request to its inputs.
-ghost use Rattle.std.specs.Prelude.{◌≡◌, ◌^◌, ◌≤◌, ◌∷◌, [], ◌++◌, length, IfOk, Some};
-ghost use Rattle.fuun_top.specs.Answer.{AreAllowed};
+ghost use Rattle.std.specs.Prelude.{◌≡◌, ◌^◌, ◌≤◌, true, false, ◌++◌, length, IfOk, Some};
+ghost use Rattle.fuun_top.specs.Answer.{AreAllowed, is_made_first};
 ghost use Rattle.fuun_top.specs.declared.request.Asked.TheVariants.{Run, Trace, Rna, Listing, Text, Explain, Rewind};
-ghost use Rattle.fuun_top.specs.Reading.{explained, files_of, guided_in, inputs_of, most_bytes, rewound, run_files, start_in, started, with_prefix};
-ghost use Rattle.fuun_top.specs.ReadingRoom.{AreInRange, IsInRange, Judges, Reads};
+ghost use Rattle.fuun_top.specs.Reading.{explained, files_of, guided_in, guiding_files, inputs_of, most_bytes, rewound, run_files, start_in, started};
+ghost use Rattle.fuun_top.specs.ReadingRoom.{AreInRange, IsInRange, Judges, Reads, are_made_first};
 
 use crate::files::{dna_file, file_bytes, prefix_file, rna_file, script_file};
 use crate::request::{Asked, RnaVerb, RunVerb, TextVerb};
@@ -80,6 +80,7 @@ pub(crate) fn read_inputs<F: Folder>(
         (inputs_of (F.contents folder.old) asked.now)
         result (F.given folder.old) (F.given folder.new) (F.faults folder.old) (F.faults folder.new) }
     ensures in_range { IfOk result AreInRange }
+    ensures first { IfOk result (λ inputs. are_made_first inputs ≡ is_made_first asked.now) }
 {
     match asked {
         Asked::Run(verb, words) => read_run(alloc, folder, *verb, words),
@@ -110,6 +111,7 @@ fn read_run<F: Folder>(
         (inputs_of (F.contents folder.old) (Run verb words.now))
         result (F.given folder.old) (F.given folder.new) (F.faults folder.old) (F.faults folder.new) }
     ensures in_range { IfOk result AreInRange }
+    ensures first { IfOk result (λ inputs. are_made_first inputs ≡ false) }
 {
     match read_start(alloc, folder, words) {
         Ok(dna) => Ok(Inputs::Run {
@@ -130,6 +132,7 @@ fn read_traced<F: Folder>(alloc: Global, folder: &mut F, words: &RunWords) -> Re
         (inputs_of (F.contents folder.old) (Trace words.now))
         result (F.given folder.old) (F.given folder.new) (F.faults folder.old) (F.faults folder.new) }
     ensures in_range { IfOk result AreInRange }
+    ensures first { IfOk result (λ inputs. are_made_first inputs ≡ false) }
 {
     match read_start(alloc, folder, words) {
         Ok(dna) => Ok(Inputs::Trace {
@@ -199,6 +202,7 @@ fn read_commands<F: Folder>(
         (inputs_of (F.contents folder.old) (Rna verb name.now))
         result (F.given folder.old) (F.given folder.new) (F.faults folder.old) (F.faults folder.new) }
     ensures in_range { IfOk result AreInRange }
+    ensures first { IfOk result (λ inputs. are_made_first inputs ≡ false) }
 {
     match rna_file(alloc, folder, name) {
         Ok(commands) => Ok(Inputs::Plain(Plain::Rna(verb, commands))),
@@ -218,6 +222,7 @@ fn read_listed<F: Folder>(
         (inputs_of (F.contents folder.old) (Listing name.now count))
         result (F.given folder.old) (F.given folder.new) (F.faults folder.old) (F.faults folder.new) }
     ensures in_range { IfOk result AreInRange }
+    ensures first { IfOk result (λ inputs. are_made_first inputs ≡ false) }
 {
     match dna_file(alloc, folder, name, InFile::Dna) {
         Ok(dna) => Ok(Inputs::Listing { dna, count }),
@@ -238,6 +243,7 @@ fn read_text<F: Folder>(
         (inputs_of (F.contents folder.old) (Text verb name.now))
         result (F.given folder.old) (F.given folder.new) (F.faults folder.old) (F.faults folder.new) }
     ensures in_range { IfOk result AreInRange }
+    ensures first { IfOk result (λ inputs. are_made_first inputs ≡ true) }
 {
     match file_bytes(alloc, folder, name, verb.file()) {
         Ok(text) => Ok(Inputs::Text { verb, text }),
@@ -257,6 +263,7 @@ fn read_explained<F: Folder>(
         (inputs_of (F.contents folder.old) (Explain words.now))
         result (F.given folder.old) (F.given folder.new) (F.faults folder.old) (F.faults folder.new) }
     ensures in_range { IfOk result AreInRange }
+    ensures first { IfOk result (λ inputs. are_made_first inputs ≡ true) }
 {
     match dna_file(alloc, folder, words.prefix.as_str(), InFile::Prefix) {
         Ok(prefix) => explained(prefix, words),
@@ -270,6 +277,7 @@ fn explained(prefix: BaseList, words: &ExplainWords) -> Result<Inputs, Status>
     requires most { length prefix ≤ most_bytes }
     ensures judges { Judges (explained words.now prefix) result }
     ensures in_range { IfOk result AreInRange }
+    ensures first { IfOk result (λ inputs. are_made_first inputs ≡ true) }
 {
     if prefix.len() as u64 + words.length > words.limit {
         return Err(Status::StartTooLong);
@@ -294,6 +302,7 @@ fn read_rewound<F: Folder>(
         (inputs_of (F.contents folder.old) (Rewind words.now))
         result (F.given folder.old) (F.given folder.new) (F.faults folder.old) (F.faults folder.new) }
     ensures in_range { IfOk result AreInRange }
+    ensures first { IfOk result (λ inputs. are_made_first inputs ≡ false) }
 {
     let bases = match dna_file(alloc, folder, words.dna.as_str(), InFile::Dna) {
         Ok(bases) => bases,
@@ -312,8 +321,8 @@ fn read_guided<F: Folder>(
     prefix: &Option<Name>,
     script: &str,
 ) -> Result<(BaseList, OrderList), Status>
-    requires { AreAllowed (F.allows folder.old) (with_prefix prefix.now (script.now ∷ [])) }
-    ensures reads { Reads (F.contents folder.old) (with_prefix prefix.now (script.now ∷ []))
+    requires { AreAllowed (F.allows folder.old) (guiding_files prefix.now script.now) }
+    ensures reads { Reads (F.contents folder.old) (guiding_files prefix.now script.now)
         (guided_in (F.contents folder.old) prefix.now script.now)
         result (F.given folder.old) (F.given folder.new) (F.faults folder.old) (F.faults folder.new) }
 {
@@ -333,8 +342,8 @@ fn read_prefixed<F: Folder>(
     prefix: &str,
     script: &str,
 ) -> Result<(BaseList, OrderList), Status>
-    requires { AreAllowed (F.allows folder.old) (prefix.now ∷ script.now ∷ []) }
-    ensures reads { Reads (F.contents folder.old) (prefix.now ∷ script.now ∷ [])
+    requires { AreAllowed (F.allows folder.old) (guiding_files (Some prefix.now) script.now) }
+    ensures reads { Reads (F.contents folder.old) (guiding_files (Some prefix.now) script.now)
         (guided_in (F.contents folder.old) (Some prefix.now) script.now)
         result (F.given folder.old) (F.given folder.new) (F.faults folder.old) (F.faults folder.new) }
 {
@@ -360,6 +369,7 @@ fn rewound(
     requires most { limit ≤ 2 ^ 40 }
     ensures judges { Judges (rewound limit (prefix ++ dna) orders) result }
     ensures in_range { IfOk result AreInRange }
+    ensures first { IfOk result (λ inputs. are_made_first inputs ≡ false) }
 {
     match start(alloc, prefix, dna, limit) {
         Ok(dna) => Ok(Inputs::Rewind { dna, orders, limit }),

@@ -4,6 +4,7 @@
 //! Behind the first stand those on what may be chained: the output of one verb, taken as a file of another.
 ghost use Rattle.fuun_top.specs.OutputLaws.{HasOutput, HasOneOutput};
 ghost use Rattle.fuun_top.specs.RunChains.{RnaGoesOn, DnaGoesOn, TraceGoesOn, DrawnRnaIsImage, DrawnPartsAreImage, RewoundAgrees};
+ghost use Rattle.fuun_top.specs.BenchLaws.{LoadsAreCarriedOut, LoadsAreSummedUp};
 ghost use Rattle.fuun_top.specs.MadeChains.{PatchesAreCarriedOut, AssembledIsListed, ListedIsAssembledAgain, DrawnPictureIsSame, OwnPictureIsSame, PatchIsExplained};
 
 /// Words over files that are told have exactly one output.
@@ -54,4 +55,12 @@ pub fn patch_is_explained()
 /// `show` the DNA that `dna` writes with so many attempts.
 pub fn rewound_agrees()
     ensures { RewoundAgrees }
+{}
+
+/// The run of `bench`, for each load that can be asked for, carries its patches out: it spends its budget of an attempt a
+/// patch, matches each time, gives no RNA and leaves exactly the patched target, and no DNA on its way reaches 2^26 bases.
+/// The summary tells of that.
+pub fn loads_are_carried_out()
+    ensures run { LoadsAreCarriedOut }
+    ensures summary { LoadsAreSummedUp }
 {}

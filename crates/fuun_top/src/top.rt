@@ -1,10 +1,9 @@
-ghost use Rattle.std.specs.Prelude.{◌≡◌, ◌≢◌, ◌+◌, ◌≤◌};
-ghost use Rattle.fuun_io.specs.Counts.{raised, Rose};
+ghost use Rattle.std.specs.Prelude.{◌≡◌, ◌≢◌};
+ghost use Rattle.fuun_io.specs.Counts.{Rose};
 ghost use Rattle.fuun_io.specs.Written.{appended, PutsFront};
 ghost use Rattle.fuun_top.specs.declared.status.InFile.{InFile as AnyFile};
-ghost use Rattle.fuun_top.specs.Answer.{MayAsk, AnswersOrFails, AreGiven, Grows};
+ghost use Rattle.fuun_top.specs.Answer.{MayAsk, AnswersOrFails, AreGiven, Grows, IsLongAsked, IsUnmade};
 ghost use Rattle.fuun_top.specs.Output.{Output, IsOutput};
-ghost use Rattle.fuun_top.specs.Reading.{most_bytes};
 ghost use Rattle.fuun_top.specs.Stages.{IsRefusal};
 ghost use Rattle.fuun_top.specs.Steps.{CallTicks};
 ghost use Rattle.fuun_words.specs.Requests.{request, texts};
@@ -42,12 +41,13 @@ pub fn fuun<F: Folder, S: Sink, L: Ledger>(
     ensures part { (output : Output) → IsOutput (F.contents folder.old) (texts words.now) output →
         PutsFront (S.bytes out.old) (S.bytes out.new) output.bytes }
     ensures nothing { IsRefusal result → S.bytes out.new ≡ S.bytes out.old }
+    ensures unmade { IsUnmade (request (texts words.now)) result → S.bytes out.new ≡ S.bytes out.old }
 
     // Whatever the folder tells of its files.
     ensures grows { Grows (S.bytes out.old) (S.bytes out.new) }
     ensures usage { result ≡ Status.Usage → request (texts words.now) ≡ None }
     ensures too_long { (file : AnyFile) → result ≡ Status.InputTooLong file →
-        raised (F.given folder.old) (most_bytes + 1) ≤ F.given folder.new }
+        IsLongAsked (F.contents folder.old) (request (texts words.now)) file (F.given folder.old) (F.given folder.new) }
     ensures read { result ≡ Status.Done →
         AreGiven (F.contents folder.old) (F.given folder.old) (F.given folder.new) (request (texts words.now)) }
 

@@ -15,6 +15,6 @@ returns-in-Err-prefix_file-clause-reads g c =
     let mid = c.dna_file.new.folder in
     let new = c.prefix_file.new.folder in
     let status = c.in-Err-prefix_file.status in
-    let first = subst (λ name. Reads files (name ∷ []) (dna_in files file.Dna name) (Ok c.in-Ok.dna) (given old) (given mid) (faults old) (faults mid)) c.as_str.ensures c.in-Ok.ensures.reads in
+    let first = subst (λ name. Reads files ((file.Dna, name) ∷ []) (dna_in files file.Dna name) (Ok c.in-Ok.dna) (given old) (given mid) (faults old) (faults mid)) c.as_str.ensures c.in-Ok.ensures.reads in
     let second = subst (λ f. Reads f (prefix_files words.prefix) (prefix_in f words.prefix) (Err status) (given mid) (given new) (faults mid) (faults new)) c.in-Ok.ensures.same_contents c.in-Err-prefix_file.ensures.reads in
-    reads_refused_behind files _ _ _ _ c.in-Ok.dna (λ dna. prefix_in files words.prefix) (λ dna prefix. Some (started words.limit (prefix ++ dna))) status _ _ _ _ _ _ first second
+    reads_refused_behind files _ _ _ c.in-Ok.dna (λ dna. prefix_in files words.prefix) (λ dna prefix. Some (started words.limit (prefix ++ dna))) status _ _ _ _ _ _ first second

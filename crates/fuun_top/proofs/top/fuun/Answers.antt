@@ -1,4 +1,4 @@
-use Rattle.fuun_top.proofs.TopLemmas.{asked_output, read_output, refused_answer, refused_whole, wrote_answer, wrote_whole, wrote_nothing, wrote_part, wrote_grows, none_grows}
+use Rattle.fuun_top.proofs.TopLemmas.{asked_output, read_output, refused_answer, refused_whole, wrote_answer, wrote_whole, wrote_nothing, wrote_unmade, wrote_not_long, wrote_part, wrote_grows, none_grows}
 use Rattle.fuun_top.proofs.StepLemmas.{call_ticked, none_ticked}
 use Rattle.fuun_top.proofs.top.fuun.Goals as goal
 
@@ -43,3 +43,10 @@ returns-clause-grows g c = none_grows _
 
 pub returns-in-Ok-read_inputs-clause-nothing : goal.returns-in-Ok-read_inputs-clause-nothing
 returns-in-Ok-read_inputs-clause-nothing g c refusal = wrote_nothing c.in-Ok-read_inputs.inputs _ _ _ _ _ c.put_output.ensures.wrote refusal
+
+pub returns-in-Ok-read_inputs-clause-unmade : goal.returns-in-Ok-read_inputs-clause-unmade
+returns-in-Ok-read_inputs-clause-unmade g c unmade =
+    wrote_unmade _ c.in-Ok.request c.sorted-asked.result c.in-Ok-read_inputs.inputs _ _ _ _ _ c.in-Ok.ensures.taken c.sorted-asked.ensures.sorted c.in-Ok-read_inputs.ensures.first c.put_output.ensures.wrote unmade
+
+pub returns-in-Ok-read_inputs-clause-too_long : goal.returns-in-Ok-read_inputs-clause-too_long
+returns-in-Ok-read_inputs-clause-too_long g c file long = absurd (wrote_not_long c.in-Ok-read_inputs.inputs _ _ _ _ _ file c.put_output.ensures.wrote long)
