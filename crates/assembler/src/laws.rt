@@ -18,8 +18,8 @@ pub fn codes_of_lines()
     ensures refused { RefusedIsNotRead }
 {}
 
-/// A listing of assembled DNA shows its lines again, and the text of pairs that a DNA is read as is assembled to a DNA that
-/// is read as the same pairs.
+/// A listing of assembled DNA shows its lines again, and the text of pairs that a DNA is read as, without RNA and with
+/// numbers below 2^63, is assembled to a DNA that is read as the same pairs.
 pub fn listed_again()
     ensures shown { ListingShowsLines }
     ensures assembled { ListedIsAssembled }

@@ -12,7 +12,8 @@ use std::marker::Brand;
 use std::sync::ledger::{Blank, Ledger};
 
 /// Says what a prefix does to every DNA of so many bases, of which nothing else is known: how the machine ends, after how
-/// many attempts, with which RNA, and what its last DNA is. It is not told where an attempt depends on the target.
+/// many attempts, with which RNA, and what its last DNA is. It is not told where an attempt depends on the target by the
+/// rule of docs/MACHINE.md, "Explaining", which may be so though all targets go alike. Nodes are made on a counter of its own.
 /// `attempts` is the budget of attempts, and `limit` the greatest length in bases that a DNA may have.
 pub fn explain(
     alloc: Global,

@@ -24,7 +24,8 @@ pub enum CompileError {
 }
 
 /// The prefix of a patch file, of at most `limit` bases, where `limit` is at most 2^40. Put before any DNA of the file's
-/// length it makes the machine carry out the rows, one attempt a row, and it is used up then.
+/// length it makes the machine carry out the rows, one attempt a row, under a limit that each DNA on the way is within (a copy
+/// of a whole DNA doubles it), and it is used up then.
 pub fn compile(alloc: Global, file: &PatchFile, limit: u64) -> Result<BaseList, CompileError>
     requires { limit ≤ 2 ^ 40 }
     ensures taken { IfOk result (λ list. compiled file.now limit ≡ Ok list) }
