@@ -7,3 +7,7 @@ pub mod AlikeLines
 pub mod Existence
 pub mod Transfer
 pub mod Settled
+pub mod LawLemmas
+pub mod AnswerLemmas
+pub mod ReadLemmas
+pub mod Worked

@@ -2,6 +2,7 @@
 #![tactic(auto)]
 
 mod behind;
+pub mod laws;
 mod lengths;
 mod putting;
 mod settling;
