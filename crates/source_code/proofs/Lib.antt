@@ -1,0 +1,13 @@
+pub mod TotalLemmas
+pub mod HeldLemmas
+pub mod LoopLemmas
+pub mod Rising
+pub mod Climb
+pub mod AlikeLines
+pub mod Existence
+pub mod Transfer
+pub mod Settled
+pub mod LawLemmas
+pub mod AnswerLemmas
+pub mod ReadLemmas
+pub mod Worked

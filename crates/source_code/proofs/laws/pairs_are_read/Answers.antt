@@ -1,0 +1,8 @@
+use Rattle.source_code.proofs.ReadLemmas.{pair_is_read, readable_alike}
+use Rattle.source_code.proofs.laws.pairs_are_read.Goals as goal
+
+pub returns-clause-read : goal.returns-clause-read
+returns-clause-read c = pair_is_read
+
+pub returns-clause-alike : goal.returns-clause-alike
+returns-clause-alike c = readable_alike
