@@ -2,20 +2,14 @@ ghost use Rattle.std.specs.Prelude.{◌≡◌, ℕ, ◌+◌, ◌<◌, ◌≤◌,
 ghost use Rattle.explainer.specs.Windows.{IsOut};
 ghost use Rattle.explainer.specs.Open.{GoesOn};
 
-use crate::open_places::{open_each, stretch_end};
-use crate::planes::{Planes, other_along};
+use crate::open_places::open_each;
+use crate::planes::Planes;
 use cell_rope::CellRope;
 use fuun_base::{Base, NoMemory};
 use std::alloc::Global;
 use sym_strand::Cell;
 
-/// A stretch of fewer cells is read with those behind it, 64 cells to a word.
-pub(crate) const SHORT: u64 = 256;
-
-/// So many cells are read at each open place before the next.
-const BATCH: u64 = 4096;
-
-/// Opens the places of short stretches from a place on, without those at which the needle differs from their cells, and
+/// Opens the places of the next cells, at most 64 of them, without those at which the needle differs from these cells, and
 /// drops the earlier ones at which it does. Answers the place behind.
 pub(crate) fn open_mixed(
     alloc: Global,
@@ -30,38 +24,11 @@ pub(crate) fn open_mixed(
     ensures within { IfOk result (λ next. next ≤ length dna.now) }
     ensures goes { IfOk result (GoesOn needle.now dna.now begun.old.items place begun.new.items) }
 {
-    let _len = dna.len();
-    let end = mixed_end(dna, place);
-    open_each(place, end - place, begun)?;
-    let cells = Planes::of_cells(alloc, dna, place, end)?;
-    *begun = without_seen(
-        alloc,
-        dna,
-        place,
-        cells.as_slice(),
-        needle,
-        words,
-        begun.as_slice(),
-    )?;
-    Ok(end)
-}
-
-/// The place behind the stretch of a place and the short ones that follow, of which at most a batch is taken.
-fn mixed_end(dna: &CellRope, place: u64) -> u64
-    requires { place < length dna.now }
-    ensures after { place < result }
-    ensures within { result ≤ length dna.now }
-{
-    let len = dna.len();
-    let mut end = stretch_end(dna, place);
-    while end < len && end - place < BATCH {
-        let next = stretch_end(dna, end);
-        if next - end >= SHORT {
-            return end;
-        }
-        end = next;
-    }
-    end
+    let count = (dna.len() - place).min(64);
+    open_each(place, count, begun)?;
+    let cells = Planes::of_cells(dna, place, count);
+    *begun = without_seen(alloc, dna, place, cells, needle, words, begun.as_slice())?;
+    Ok(place + count)
 }
 
 /// The open places without those at which the needle differs from cells that stand at a place.
@@ -69,7 +36,7 @@ fn without_seen(
     alloc: Global,
     dna: &CellRope,
     place: u64,
-    cells: &[Planes],
+    cells: Planes,
     needle: &[Base],
     words: &[Planes],
     begun: &[u64],
@@ -87,13 +54,16 @@ fn without_seen(
 }
 
 /// Where in the needle it seems to differ from cells that stand at a place, if it begins at another.
-fn other_at(place: u64, cells: &[Planes], words: &[Planes], begin: u64) -> Option<usize> {
+fn other_at(place: u64, cells: Planes, words: &[Planes], begin: u64) -> Option<usize> {
     if begin <= place {
         let past = (place - begin) as usize;
-        past.checked_add(other_along(words, past, cells)?)
+        let at = Planes::window(words, past).first_other(cells)?;
+        past.checked_add(at as usize)
+    } else if begin - place < 64 {
+        let at = Planes::window(words, 0).first_other(cells.from((begin - place) as u32))?;
+        Some(at as usize)
     } else {
-        let most = words.len().min(cells.len());
-        other_along(cells, (begin - place) as usize, &words[..most])
+        None
     }
 }
 

@@ -7,7 +7,7 @@ ghost use Rattle.explainer.specs.Open.{GoesOn, GoesOnAlong, OpensRepeats, Closes
 ghost use Rattle.dna_items.specs.declared.items.PatItem.TheVariants.{Search};
 
 use crate::dropping::without_differing;
-use crate::mixed::{SHORT, open_mixed};
+use crate::mixed::open_mixed;
 use crate::passing::Passing;
 use crate::planes::Planes;
 use crate::repeats::same_fronts;
@@ -18,6 +18,9 @@ use rope_search::KmpTable;
 use rope_strand::RopeStrand;
 use std::alloc::Global;
 use strand::Strand;
+
+/// A stretch of fewer cells is read with those behind it, 64 cells at once.
+const SHORT: u64 = 256;
 
 /// Searches stretch by stretch. Kept are the places before at which the needle may stand.
 pub(crate) fn search_along(
@@ -58,7 +61,7 @@ pub(crate) fn search_along(
 }
 
 /// The place behind the stretch of a place.
-pub(crate) fn stretch_end(dna: &CellRope, place: u64) -> u64
+fn stretch_end(dna: &CellRope, place: u64) -> u64
     requires { place < length dna.now }
     ensures after { place < result }
     ensures within { result ≤ length dna.now }

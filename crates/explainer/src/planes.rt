@@ -24,28 +24,8 @@ impl Planes {
         high: 0,
     };
 
-    /// The cells from a place on and before another, 64 to a word.
-    pub(crate) fn of_cells(
-        alloc: Global,
-        dna: &CellRope,
-        place: u64,
-        end: u64,
-    ) -> Result<Vec<Planes>, NoMemory>
-        requires within { end ≤ length dna.now }
-    {
-        let _len = dna.len();
-        let mut words = Vec::new(alloc);
-        let mut from = place;
-        while from < end {
-            let count = (end - from).min(WORD as u64);
-            words.push(Planes::of_few(dna, from, count))?;
-            from += count;
-        }
-        Ok(words)
-    }
-
     /// So many cells from a place on.
-    fn of_few(dna: &CellRope, place: u64, count: u64) -> Planes
+    pub(crate) fn of_cells(dna: &CellRope, place: u64, count: u64) -> Planes
         requires some { count ≤ 64 }
         requires within { place + count ≤ length dna.now }
     {
@@ -92,7 +72,7 @@ impl Planes {
     }
 
     /// The places from one on.
-    fn from(self, at: u32) -> Planes
+    pub(crate) fn from(self, at: u32) -> Planes
         requires { at < 64 }
     {
         Planes {
@@ -122,7 +102,7 @@ impl Planes {
     }
 
     /// The 64 bases from a place on.
-    fn window(words: &[Planes], from: usize) -> Planes {
+    pub(crate) fn window(words: &[Planes], from: usize) -> Planes {
         let first = word_at(words, from / WORD);
         let past = (from % WORD) as u32;
         if past == 0 {
@@ -134,7 +114,7 @@ impl Planes {
     }
 
     /// The first place at which two known bases differ.
-    fn first_other(self, other: Planes) -> Option<u32> {
+    pub(crate) fn first_other(self, other: Planes) -> Option<u32> {
         let differ = (self.low ^ other.low) | (self.high ^ other.high);
         let found = self.known & other.known & differ;
         if found == 0 {
@@ -143,18 +123,6 @@ impl Planes {
             Some(found.trailing_zeros())
         }
     }
-}
-
-/// The first place of a list, 64 to a word, at which it has another base than a longer one has from a place on.
-pub(crate) fn other_along(long: &[Planes], from: usize, short: &[Planes]) -> Option<usize> {
-    for (index, planes) in short.iter().enumerate() {
-        let done = index.checked_mul(WORD)?;
-        let window = Planes::window(long, from.checked_add(done)?);
-        if let Some(at) = window.first_other(*planes) {
-            return done.checked_add(at as usize);
-        }
-    }
-    None
 }
 
 fn word_at(words: &[Planes], at: usize) -> Planes {
