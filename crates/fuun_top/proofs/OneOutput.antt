@@ -1,5 +1,5 @@
 -- Words over files that are told have exactly one output.
-use Rattle.std.proofs.Common.{◌≡◌, false, ℕ, Option, Some, None, Result, Ok, Err, List, [], ◌∷◌, refl, sym, ap, ◌∙◌, subst, arith}
+use Rattle.std.proofs.Common.{◌≡◌, false, ℕ, Option, Some, None, Result, Ok, Err, List, [], refl, sym, ap, ◌∙◌, subst, arith}
 use Rattle.std.specs.List.{AllByRecursion}
 use Rattle.std.specs.Option.{option_map}
 use Rattle.fuun_base.specs.declared.letters.Base.{Base}

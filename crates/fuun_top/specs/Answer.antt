@@ -38,18 +38,19 @@ told_length files file = option_map_or length (files file.1) 0
 abbrev pub told_bytes : Files → List Called → ℕ
 told_bytes files called = sum_by (told_length files) called
 
--- each file that is asked for was given to its end, as far as its contents are told
+-- as many bytes were given as the files that are asked for have, as far as their contents are told
 abbrev pub AreGiven : Files → ℕ → ℕ → Option Request → Type 0
 AreGiven files old new None = Unit {0}
 AreGiven files old new (Some asked) = raised old (told_bytes files (files_of (sorted asked))) ≤ new
 
--- a file is the one that is too long: more bytes were given of it than a file may have, and it has more, where that is told
+-- a file is the one that is too long: it has more bytes than a file may have, where that is told, and so many were given
 pub record IsLong (files : Files) (called : Called) (file : InFile) (old new : ℕ) : Type 0 where
   pub named : called.0 ≡ file
   pub longer : IfSome (files called.1) (λ bytes. most_bytes < length bytes)
   pub given : raised old (most_bytes + 1) ≤ new
 
--- of files that are read in order it is the first, or the first was given to its end and it is one of the others
+-- of files that are read in order it is the first; or it is one of the others, and before it as many bytes were given as the
+-- first has, where that is told
 abbrev pub IsLongOf : Files → List Called → InFile → ℕ → ℕ → Type 0
 IsLongOf files [] file old new = ⊥
 IsLongOf files (first ∷ more) file old new =

@@ -68,7 +68,7 @@ pub(crate) enum Plain {
     Rna(RnaVerb, CommandList),
 }
 
-/// Reads the files that are asked for, and judges each before the next is touched.
+/// Reads the files that are asked for, in order. The first that is refused decides.
 pub(crate) fn read_inputs<F: Folder>(
     alloc: Global,
     folder: &mut F,

@@ -27,7 +27,8 @@ pub enum Status {
     Usage,
     /// The machine made as many attempts as the budget allows, and did not finish.
     OutOfBudget,
-    /// This attempt, counted from 0, would have made the DNA longer than the limit.
+    /// This attempt, counted from 0, would have made the DNA longer than the limit; where DNA is made of a text and is
+    /// longer, 0.
     TooLong { attempt: u64 },
     /// The byte at this place of the file, counted from 0, is no letter of a base.
     BadBase { file: InFile, place: u64 },
@@ -47,7 +48,7 @@ pub enum Status {
     WriteFault,
     /// There was not enough memory.
     NoMemory,
-    /// The prefix and the DNA together have more bases than the limit.
+    /// The prefix and the DNA, or the target that is to be explained, together have more bases than the limit.
     StartTooLong,
     /// This line of the text, counted from 1, is the text of no pair.
     BadText { line: u64 },
