@@ -33,7 +33,8 @@ abbrev pub RewindTicks : List Base → List Order → ℕ → ℕ → ℕ → Ty
 RewindTicks dna orders limit old new =
     (total : ℕ) → ScriptWeighs (most_height limit) limit dna orders 0 0 total → Ticks old new (start_steps (length dna) + total)
 
--- a run makes its nodes, one on a load too, and a listing those of its DNA; else none is made
+-- a run makes its nodes, one on a load too, and a listing those of its DNA; else none is made on this counter. What is told
+-- of a prefix makes nodes too, on a counter of its own
 abbrev pub InputsTick : Inputs → ℕ → ℕ → Type 0
 InputsTick (inputs.Run verb dna budget limit) old new = RunTicks dna budget limit old new
 InputsTick (inputs.Trace dna budget limit) old new = RunTicks dna budget limit old new

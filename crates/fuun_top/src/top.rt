@@ -51,7 +51,8 @@ pub fn fuun<F: Folder, S: Sink, L: Ledger>(
     ensures read { result ≡ Status.Done →
         AreGiven (F.contents folder.old) (F.given folder.old) (F.given folder.new) (request (texts words.now)) }
 
-    // Nodes of ropes are made for the start of a run, for its attempts and for a listing alone, wherever the call ends.
+    // Nodes of ropes are made on this counter for the start of a run, for its attempts and for a listing alone, wherever the
+    // call ends; `explain` makes its own on another.
     ensures steps { CallTicks (F.contents folder.old) (request (texts words.now)) steps.old steps.new }
 
     // A fault is the answer exactly where one was counted.
