@@ -1,3 +1,4 @@
+//! From lines to DNA.
 ghost use Rattle.std.specs.Prelude.{◌≡◌, ◌≢◌, ℕ, ◌^◌, ◌<◌, ◌≤◌, Err, List as ListOf, Ok, length, IfErr, IfOk, MatchResult};
 ghost use Rattle.source_items.specs.declared.lines.Line.{Line};
 ghost use Rattle.source_items.specs.Held.{AreHeld};
