@@ -7,12 +7,13 @@ use Rattle.fuun_base.specs.declared.letters.Base.{Base}
 use Rattle.fuun_base.specs.declared.letters.Base.TheVariants.{I, C, F, P}
 use Rattle.fuun_base.specs.Quote.{quote, quote_of, asnat}
 use Rattle.fuun_base.proofs.AsnatLemmas.{length-asnat_le}
+use Rattle.dna_reader.specs.Codes.{end_code}
 use Rattle.patch_text.specs.declared.rows.PatchRow.{PatchRow}
 use Rattle.patch_text.specs.declared.rows.PatchRow.TheVariants.{Edit, Copy, Move}
 use Rattle.patch_text.specs.Contents.{Contents}
 use Rattle.patch_text.specs.Lengths.{AllFit, IsOutside}
 use Rattle.patch_text.proofs.Outsides.{fit_has_no_outside, outside_is_one}
-use Rattle.patch_compile.specs.Code.{end, skip, skip_group, reference, edit_code, row_code, prefix}
+use Rattle.patch_compile.specs.Code.{skip_group, reference, edit_code, row_code, prefix}
 use Rattle.workload.specs.Laws.{is_light}
 use Rattle.workload.specs.Load.{patches_of, target_of}
 use Rattle.workload.specs.Numbers.{behind}
@@ -34,16 +35,16 @@ quoted_short (b ∷ d) = omega (arith, length-append (quote_of b) (quote d), one
 -- the part of an edit has 19 bases beside its numbers and its put
 length-edit : (n cut : ℕ) (put : List Base) → length (edit_code n cut put) ≤ 20 + (length (asnat n) + (length (asnat cut) + length (quote put)))
 length-edit n cut put =
-    let tail = quote put ++ end in
+    let tail = quote put ++ end_code in
     let third = reference 0 ++ tail in
-    let second = end ++ third in
-    let first = skip cut ++ second in
-    let group : length (skip_group n) ≡ 8 + length (asnat n) = omega (arith, length-append (asnat n) end) in
+    let second = end_code ++ third in
+    let first : List Base = I ∷ P ∷ (asnat cut ++ second) in
+    let group : length (skip_group n) ≡ 8 + length (asnat n) = omega (arith, length-append (asnat n) end_code) in
     let cuts : length first ≡ 2 + length (asnat cut) + length second = omega (arith, length-append (asnat cut) second) in
     let ends : length second ≡ 3 + length third = omega arith in
-    let shown : length third ≡ 3 + length (asnat 0) + length tail = omega (arith, length-append (asnat 0) tail) in
+    let shown : length third ≡ 2 + (length (asnat 0) + length (asnat 0)) + length tail = omega (arith, length-append (asnat 0) (asnat 0), length-append (asnat 0 ++ asnat 0) tail) in
     let none : length (asnat 0) ≤ 1 = length-asnat_le 0 0 (omega arith) in
-    let puts : length tail ≡ length (quote put) + 3 = length-append (quote put) end in
+    let puts : length tail ≡ length (quote put) + 3 = length-append (quote put) end_code in
     omega (arith, group, cuts, ends, shown, none, puts, length-append (skip_group n) first)
 
 -- the part of a light row

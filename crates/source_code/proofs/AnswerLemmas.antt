@@ -11,9 +11,9 @@ use Rattle.source_items.specs.Values.{total}
 use Rattle.source_code.specs.declared.settling.CodeError.{CodeError}
 use Rattle.source_code.specs.declared.settling.CodeError.TheVariants.{BadNumber, TooLong, NoMemory}
 use Rattle.source_code.specs.Answers.{IsAnswer, IsLastBig}
-use Rattle.source_code.specs.Kept.{AreFound, IsFound, IsFoundBig}
+use Rattle.source_code.specs.Kept.{AreFound, IsFoundBig}
 use Rattle.source_code.specs.Laws.{AnswerIsOne, HasAnswer, KeptAnswersAlike}
-use Rattle.source_code.specs.Lengths.{AreLengths, IsBig, IsLength, Settles, dna}
+use Rattle.source_code.specs.Lengths.{IsBig, IsLength, Settles, dna}
 use Rattle.source_code.proofs.Existence.{has_least, least_is_length, length_once}
 use Rattle.source_code.proofs.LawLemmas.{lengths_are_one}
 use Rattle.source_code.proofs.Settled.{refused_is, taken_is, too_long_is}

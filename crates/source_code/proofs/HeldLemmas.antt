@@ -1,13 +1,12 @@
 -- Numbers that are held at 2^63.
-use Rattle.std.proofs.Common.{◌≡◌, ℕ, zero, suc, ◌+◌, ◌*◌, ◌^◌, ◌<◌, ◌≤◌, List, inl, inr, arith, refl, sym, ap, ◌∙◌}
+use Rattle.std.proofs.Common.{◌≡◌, ℕ, zero, suc, ◌+◌, ◌*◌, ◌^◌, ◌<◌, ◌≤◌, ◌||◌, Bool, true, false, List, ◌++◌, length, inl, inr, arith, refl, sym, ap, ◌∙◌, length-append}
 use Rattle.std.specs.Prelude.{◌≢◌, nat_lt}
-use Rattle.std.proofs.Common.{Bool, true, false, ◌||◌, ◌++◌, length, length-append}
+use Rattle.std.proofs.lemmas.Bool.{cases_lt, lt-ltb, le-ltb, ltb-true}
 use Rattle.fuun_base.specs.declared.letters.Base.{Base}
+use Rattle.dna_items.specs.Held.{held}
 use Rattle.dna_items.specs.declared.items.PatItem.{PatItem}
 use Rattle.dna_items.specs.declared.items.TplItem.{TplItem}
 use Rattle.dna_reader.specs.Codes.{end_code, pair_code, pattern_code, template_code}
-use Rattle.std.proofs.lemmas.Bool.{cases_lt, lt-ltb, le-ltb, ltb-true}
-use Rattle.dna_items.specs.Held.{held}
 
 pub held_small : (n : ℕ) → n < 2 ^ 63 → held n ≡ n
 unfolding held

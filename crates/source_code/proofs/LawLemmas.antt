@@ -1,14 +1,13 @@
 -- What holds of settled lines.
-use Rattle.std.proofs.Common.{◌≡◌, ◌⊎◌, ℕ, zero, suc, ◌+◌, ◌-◌, ◌^◌, ◌<◌, ◌≤◌, ◌&&◌, ◌||◌, Bool, true, false, Result, Ok, Err, List, [], ◌∷◌, ◌++◌, drop, length, take, inl, inr, arith, refl, sym, ap, ◌∙◌, subst, length-append}
+use Rattle.std.proofs.Common.{◌≡◌, ℕ, zero, suc, ◌+◌, List, [], ◌∷◌, ◌++◌, drop, length, take, arith, refl, sym, ap, ◌∙◌, subst, length-append}
 use Rattle.std.proofs.lemmas.List.{length-replicate}
 use Rattle.std.proofs.Math.Seq.{drop-append-add}
 use Rattle.fuun_base.specs.declared.letters.Base.{Base}
-use Rattle.source_items.specs.declared.lines.Line.{Line}
 use Rattle.source_items.specs.declared.lines.Line.TheVariants.{Plain, Pair, Long}
-use Rattle.source_items.specs.Lines.{are_small, line_code, line_len}
+use Rattle.source_items.specs.Lines.{line_code, line_len}
 use Rattle.source_items.specs.Values.{total}
 use Rattle.source_code.specs.Laws.{CodeHasLength, CodesHaveLengths, HasLengths, LengthsAreOne, NamesAreDistances, OthersAreBehind}
-use Rattle.source_code.specs.Lengths.{AreLengths, IsLength, dna}
+use Rattle.source_code.specs.Lengths.{IsLength, dna}
 use Rattle.source_code.proofs.Existence.{has_least, least_is_length, length_once}
 
 pub has_lengths : HasLengths

@@ -1,16 +1,35 @@
 -- Pairs are read, whatever their values are.
-use Rattle.std.proofs.Common.{◌≡◌, ℕ, zero, suc, ◌+◌, ◌≤◌, ◌&&◌, ◌||◌, Bool, List, [], ◌∷◌, take, arith, refl, sym, ap, ◌∙◌}
+use Rattle.std.proofs.Common.{◌≡◌, ℕ, zero, suc, ◌+◌, ◌&&◌, ◌||◌, List, [], ◌∷◌, take, arith, refl, sym, ap, ◌∙◌, drop, subst}
+use Rattle.std.proofs.lemmas.List.{drop-drop}
 use Rattle.dna_items.specs.Balance.{start_of, stop_of, starts, stops}
 use Rattle.dna_reader.specs.Codes.{has_search_before_base, is_base, is_search}
+use Rattle.dna_reader.specs.CodeLaws.{ReadsPair}
 use Rattle.dna_reader.proofs.CodeLemmas.{pair_code_is_read}
+use Rattle.source_items.specs.declared.lines.Line.TheVariants.{Pair}
 use Rattle.source_items.specs.declared.lines.SourceItem.{SourceItem}
 use Rattle.source_items.specs.declared.lines.SourceItem.TheVariants.{Fixed, Skip}
 use Rattle.source_items.specs.Lines.{item_of, pattern_of}
-use Rattle.source_code.specs.Laws.{PairIsRead, ReadableAlike}
+use Rattle.source_code.specs.Laws.{PairIsRead, PairIsReadInPlace, ReadableAlike}
+use Rattle.source_items.specs.Values.{total}
 use Rattle.source_code.specs.Lengths.{dna}
+use Rattle.source_code.proofs.LawLemmas.{others_are_behind}
 
 pub pair_is_read : PairIsRead
 pair_is_read pattern template later own behind readable = pair_code_is_read (pattern_of own behind pattern) template (dna later behind) readable
+
+pub pair_is_read_in_place : PairIsReadInPlace
+pair_is_read_in_place lines lengths index pattern template later own behind are here sizes readable =
+    let one : drop 1 (drop index lines) ≡ later = ap (drop 1) here in
+    let others : drop 1 (drop index lengths) ≡ behind = ap (drop 1) sizes in
+    let first : drop (total (take index lengths)) (dna lines lengths) ≡ dna (Pair pattern template ∷ later) (own ∷ behind) =
+    others_are_behind lines lengths index are ∙ ap (λ l. dna l (drop index lengths)) here ∙ ap (dna (Pair pattern template ∷ later)) sizes in
+    let next : drop (total (take (index + 1) lengths)) (dna lines lengths) ≡ dna later behind =
+    others_are_behind lines lengths (index + 1) are
+    ∙ ap (λ l. dna l (drop (index + 1) lengths)) (sym (drop-drop 1 index lines) ∙ one)
+    ∙ ap (dna later) (sym (drop-drop 1 index lengths) ∙ others) in
+    subst (λ l. ReadsPair l (pattern_of own behind pattern) template (drop (total (take (index + 1) lengths)) (dna lines lengths))) (sym first)
+    (subst (λ l. ReadsPair (dna (Pair pattern template ∷ later) (own ∷ behind)) (pattern_of own behind pattern) template l) (sym next)
+    (pair_is_read pattern template later own behind readable))
 
 module _ (own other : ℕ) (behind later : List ℕ) where
   start_alike : (item : SourceItem) → start_of (item_of own behind item) ≡ start_of (item_of other later item)

@@ -1,5 +1,5 @@
 -- What was found for lines as they are kept is the answer for the lines.
-use Rattle.std.proofs.Common.{◌≡◌, ℕ, zero, suc, ◌^◌, ◌<◌, ◌≤◌, true, Err, List, [], ◌∷◌, drop, length, inl, inr, arith, refl, sym, ap, ◌∙◌, subst, length-append}
+use Rattle.std.proofs.Common.{◌≡◌, ℕ, zero, suc, ◌^◌, ◌<◌, ◌≤◌, true, Err, List, [], ◌∷◌, drop, length, inl, inr, arith, refl, sym, ap, ◌∙◌, subst, length-append, length-drop}
 use Rattle.std.specs.Prelude.{◌≢◌}
 use Rattle.fuun_base.specs.declared.letters.Base.{Base}
 use Rattle.fuun_base.specs.declared.letters.Base.TheVariants.{I, C, F, P}
@@ -13,7 +13,7 @@ use Rattle.source_items.specs.declared.lines.Line.{Line}
 use Rattle.source_items.specs.declared.lines.Line.TheVariants.{Plain, Pair, Long}
 use Rattle.source_items.specs.declared.lines.SourceItem.{SourceItem}
 use Rattle.source_items.specs.Held.{AreHeld, items_in}
-use Rattle.source_items.specs.Lines.{are_small, item_of, line_len, pattern_of}
+use Rattle.source_items.specs.Lines.{are_small, item_of, line_code, line_len, pattern_of}
 use Rattle.source_items.specs.Values.{total}
 use Rattle.source_code.specs.declared.settling.CodeError.{CodeError}
 use Rattle.source_code.specs.declared.settling.CodeError.TheVariants.{BadNumber, TooLong, NoMemory}
@@ -22,6 +22,7 @@ use Rattle.source_code.specs.Kept.{AreFound, Exact, IsFoundBig, IsRefusal}
 use Rattle.source_code.specs.Lengths.{AreLengths, Settles, dna}
 use Rattle.source_code.proofs.AlikeLines.{AreAlike, total_alike}
 use Rattle.source_code.proofs.HeldLemmas.{alike_small, held_of_small, held_over, length-pair}
+use Rattle.source_code.proofs.LawLemmas.{code_has_length}
 use Rattle.source_code.proofs.Transfer.{all_kept, big_kept}
 
 -- each item has a code
@@ -138,3 +139,23 @@ refused_is limit lines kept (BadNumber index) are big other =
     last_big limit index lines kept (drop index lines) big refl (subst (λ l. AreHeld limit (drop index lines) l) big.there (drop_held limit index lines kept are))
 refused_is limit lines kept TooLong are big other = absurd big
 refused_is limit lines kept NoMemory are big other = absurd (other refl)
+
+-- the codes are within the limit, and a line that is refused is there
+
+pub exact_len : (kept : List Line) (found : List ℕ) → Exact kept found → length (dna kept found) ≡ total found
+exact_len [] [] exact = refl
+exact_len [] (n ∷ found) exact = absurd exact
+exact_len (line ∷ kept) [] exact = absurd exact
+exact_len (line ∷ kept) (n ∷ found) exact =
+    omega (arith, exact.0, exact_len kept found exact.3, code_has_length n found line, length-append (line_code n found line) (dna kept found))
+
+pub index_within : (index : ℕ) (kept later : List Line) (line : Line) → drop index kept ≡ line ∷ later → index < length kept
+index_within index kept later line there = omega (arith, ap length there, length-drop index kept)
+
+pub refused_within : (kept : List Line) (error : CodeError) (index : ℕ) → IsRefusal kept error → error ≡ BadNumber index → index < length kept
+refused_within kept (BadNumber at) index big is =
+    let here : at ≡ index = cc in
+    let place = index_within at kept big.later big.line big.there in
+    omega (arith, here, place)
+refused_within kept TooLong index big is = absurd big
+refused_within kept NoMemory index big is = cc

@@ -1,9 +1,7 @@
 //! The lengths of the lines behind a line, with running totals.
 ghost use Rattle.std.specs.Prelude.{◌≡◌, ◌+◌, ◌^◌, ◌≤◌, [], ◌∷◌, take, MatchOption, OnOk};
-ghost use Rattle.dna_items.specs.Held.{held};
 ghost use Rattle.source_items.specs.Values.{total};
 
-use dna_items::BIG;
 use fuun_base::NoMemory;
 use std::alloc::Global;
 use std::marker::Model;

@@ -1,5 +1,5 @@
 //! What holds of the definitions. Each call does nothing: its clause is the law.
-ghost use Rattle.source_code.specs.Laws.{AnswerIsOne, CodeHasLength, CodesHaveLengths, HasAnswer, HasLengths, KeptAnswersAlike, LengthsAreOne, NamesAreDistances, OthersAreBehind, PairIsRead, ReadableAlike};
+ghost use Rattle.source_code.specs.Laws.{AnswerIsOne, CodeHasLength, CodesHaveLengths, HasAnswer, HasLengths, KeptAnswersAlike, LengthsAreOne, NamesAreDistances, OthersAreBehind, PairIsRead, PairIsReadInPlace, ReadableAlike};
 ghost use Rattle.source_code.specs.Worked.{OwnLengthWorked, ValuesWorked};
 
 /// Lines have exactly one list of lengths.
@@ -34,6 +34,7 @@ pub fn names_are_distances()
 /// A pair is read where its code begins, with its sums' values; whether it can be read does not depend on them.
 pub fn pairs_are_read()
     ensures read { PairIsRead }
+    ensures in_place { PairIsReadInPlace }
     ensures alike { ReadableAlike }
 {}
 

@@ -9,3 +9,6 @@ mod settling;
 mod values;
 
 pub use settling::{CodeError, settle};
+
+#[cfg(test)]
+mod tests;

@@ -1,7 +1,7 @@
-ghost use Rattle.std.specs.Prelude.{◌≡◌, ◌≢◌, ◌^◌, ◌++◌, ◌≤◌, Err, List as ListOf, Ok, drop, IfErr, IfOk, OnOk, MatchResult};
+//! From lines to DNA.
+ghost use Rattle.std.specs.Prelude.{◌≡◌, ◌≢◌, ℕ, ◌^◌, ◌<◌, ◌≤◌, Err, List as ListOf, Ok, length, IfErr, IfOk, MatchResult};
 ghost use Rattle.source_items.specs.declared.lines.Line.{Line};
 ghost use Rattle.source_items.specs.Held.{AreHeld};
-ghost use Rattle.source_items.specs.Values.{total};
 ghost use Rattle.source_code.specs.Answers.{IsAnswer};
 ghost use Rattle.source_code.specs.Kept.{AreFound, IsRefusal, Exact};
 ghost use Rattle.source_code.specs.Lengths.{dna};
@@ -38,7 +38,9 @@ impl From<NoMemory> for CodeError {
 pub fn settle(alloc: Global, lines: &[Line], limit: u64) -> Result<BaseList, CodeError>
     requires { limit ≤ 2 ^ 40 }
     ensures taken { (all : ListOf Line) → AreHeld limit all lines.now → IfOk result (λ code. IsAnswer all limit (Ok code)) }
+    ensures within { IfOk result (λ code. length code ≤ limit) }
     ensures refused { (all : ListOf Line) → AreHeld limit all lines.now → IfErr result (λ error. error ≢ CodeError.NoMemory → IsAnswer all limit (Err error)) }
+    ensures index { (index : ℕ) → result ≡ Err (CodeError.BadNumber index) → index < length lines.now }
 {
     let behind = match lengths(alloc, lines) {
         Ok(behind) => behind,

@@ -1,3 +1,4 @@
+//! Lines, their items and their sums.
 use dna_items::{PatItem, TplList};
 use fuun_base::{BaseList, List};
 
