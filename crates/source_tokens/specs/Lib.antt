@@ -1,0 +1,6 @@
+pub mod Bytes
+pub mod Plain
+pub mod Names
+pub mod Words
+pub mod Statements
+pub mod Places
