@@ -2,18 +2,9 @@
 use Rattle.std.proofs.Common.{◌≡◌, ℕ, zero, suc, ◌^◌, ◌<◌, ◌≤◌, true, Err, List, [], ◌∷◌, drop, length, inl, inr, arith, refl, sym, ap, ◌∙◌, subst, length-append, length-drop}
 use Rattle.std.specs.Prelude.{◌≢◌}
 use Rattle.fuun_base.specs.declared.letters.Base.{Base}
-use Rattle.fuun_base.specs.declared.letters.Base.TheVariants.{I, C, F, P}
-use Rattle.fuun_base.specs.Quote.{quote_of}
-use Rattle.dna_items.specs.declared.items.PatItem.{PatItem}
-use Rattle.dna_items.specs.declared.items.PatItem.TheVariants.{Base as Literal, Skip as PatSkip, Search, GroupStart, GroupStop}
-use Rattle.dna_items.specs.declared.items.TplItem.{TplItem}
-use Rattle.dna_items.specs.declared.items.TplItem.TheVariants.{Base as TplLiteral, Group, Len}
-use Rattle.dna_reader.specs.Codes.{pattern_code, pattern_item_code, template_code, template_item_code}
 use Rattle.source_items.specs.declared.lines.Line.{Line}
-use Rattle.source_items.specs.declared.lines.Line.TheVariants.{Plain, Pair, Long}
-use Rattle.source_items.specs.declared.lines.SourceItem.{SourceItem}
-use Rattle.source_items.specs.Held.{AreHeld, items_in}
-use Rattle.source_items.specs.Lines.{are_small, item_of, line_code, line_len, pattern_of}
+use Rattle.source_items.specs.Held.{AreHeld}
+use Rattle.source_items.specs.Lines.{are_small, line_code, line_len}
 use Rattle.source_items.specs.Values.{total}
 use Rattle.source_code.specs.declared.settling.CodeError.{CodeError}
 use Rattle.source_code.specs.declared.settling.CodeError.TheVariants.{BadNumber, TooLong, NoMemory}
@@ -21,44 +12,9 @@ use Rattle.source_code.specs.Answers.{IsAnswer, IsLastBig}
 use Rattle.source_code.specs.Kept.{AreFound, Exact, IsFoundBig, IsRefusal}
 use Rattle.source_code.specs.Lengths.{AreLengths, Settles, dna}
 use Rattle.source_code.proofs.AlikeLines.{AreAlike, total_alike}
-use Rattle.source_code.proofs.HeldLemmas.{alike_small, held_of_small, held_over, length-pair}
+use Rattle.source_code.proofs.HeldLemmas.{alike_small, held_of_small, held_over}
 use Rattle.source_code.proofs.LawLemmas.{code_has_length}
 use Rattle.source_code.proofs.Transfer.{all_kept, big_kept}
-
--- each item has a code
-
-some_quote : (b : Base) → 1 ≤ length (quote_of b)
-some_quote I = omega arith
-some_quote C = omega arith
-some_quote F = omega arith
-some_quote P = omega arith
-
-some_pattern_item : (item : PatItem) → 1 ≤ length (pattern_item_code item)
-some_pattern_item (Literal b) = some_quote b
-some_pattern_item (PatSkip n) = omega arith
-some_pattern_item (Search s) = omega arith
-some_pattern_item GroupStart = omega arith
-some_pattern_item GroupStop = omega arith
-
-some_template_item : (item : TplItem) → 1 ≤ length (template_item_code item)
-some_template_item (TplLiteral b) = some_quote b
-some_template_item (Group n level) = omega arith
-some_template_item (Len n) = omega arith
-
-some_pattern : (own : ℕ) (behind : List ℕ) (items : List SourceItem) → length items ≤ length (pattern_code (pattern_of own behind items))
-some_pattern own behind [] = omega arith
-some_pattern own behind (item ∷ items) =
-    omega (arith, some_pattern_item (item_of own behind item), some_pattern own behind items, length-append (pattern_item_code (item_of own behind item)) (pattern_code (pattern_of own behind items)))
-
-some_template : (items : List TplItem) → length items ≤ length (template_code items)
-some_template [] = omega arith
-some_template (item ∷ items) = omega (arith, some_template_item item, some_template items, length-append (template_item_code item) (template_code items))
-
--- a line has no more items than bases
-items_within : (own : ℕ) (behind : List ℕ) (line : Line) → items_in line ≤ line_len own behind line
-items_within own behind (Plain bases) = omega arith
-items_within own behind (Pair pattern template) = omega (arith, some_pattern own behind pattern, some_template template, length-pair (pattern_of own behind pattern) template)
-items_within own behind (Long skips len) = omega arith
 
 -- no length is held where all are within the limit
 
@@ -93,7 +49,7 @@ same_lines limit (line ∷ lines) (one ∷ kept) (own ∷ behind) are is within 
     let others : kept ≡ lines = same_lines limit lines kept behind are.1 is.1 (omega (arith, within)) in
     elim are.0 as (λ _. one ∷ kept ≡ line ∷ lines) [
       | inl same ↦ ap (λ x. x ∷ kept) same ∙ ap (λ l. line ∷ l) others
-      | inr long ↦ absurd (omega (arith, within, long.many, is.0.here, items_within own behind line))
+      | inr long ↦ absurd (omega (arith, within, long.past own behind, is.0.here))
     ]
 
 -- the answers

@@ -46,8 +46,8 @@ pub enum Line {
         pattern: List<SourceItem>,
         template: TplList,
     },
-    /// A line of more items than the limit, so that its code, which is longer, is never made: the skips with sums, and how
-    /// many bases the rest of its code has, held at 2^63.
+    /// A line whose code is longer than the limit, so that it is never made: the skips with sums, and how many bases the rest
+    /// of its code has, held at 2^63.
     Long {
         skips: List<CountedSkip>,
         len: u64,
