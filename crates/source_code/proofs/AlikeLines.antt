@@ -14,7 +14,7 @@ use Rattle.source_items.specs.declared.lines.SourceItem.{SourceItem}
 use Rattle.source_items.specs.declared.lines.SourceItem.TheVariants.{Fixed, Skip}
 use Rattle.source_items.specs.Lines.{are_small, is_small, is_small_item, is_small_skip, item_of, line_len, pattern_of, skips_len}
 use Rattle.source_items.specs.Values.{factor_value, product_value, sum_value, total}
-use Rattle.source_code.proofs.HeldLemmas.{Alike, alike_big, alike_product, alike_small, alike_sum}
+use Rattle.source_items.proofs.HeldLemmas.{Alike, alike_big, alike_product, alike_small, alike_sum}
 
 -- numbers that are held alike, in turn
 abbrev pub AreAlike : List ℕ → List ℕ → Type 0

@@ -8,7 +8,7 @@ use Rattle.source_code.specs.Kept.{IsFound}
 use Rattle.source_code.specs.Lengths.{IsBig}
 use Rattle.source_code.proofs.AlikeLines.{all_alike, line_alike}
 use Rattle.source_code.proofs.Existence.{IsLeast, has_least, least_is_length}
-use Rattle.source_code.proofs.HeldLemmas.{held_alike, held_below, held_most, held_rises, held_same, held_top, held_within}
+use Rattle.source_items.proofs.HeldLemmas.{held_alike, held_below, held_most, held_rises, held_same, held_top, held_within}
 use Rattle.source_code.proofs.Rising.{line_big, line_rises}
 
 -- a number that the line is no shorter than, and that is no greater than each number that is long enough

@@ -17,7 +17,7 @@ use Rattle.source_items.specs.declared.lines.SourceItem.TheVariants.{Fixed, Skip
 use Rattle.source_items.specs.Lines.{item_of, line_len, pattern_of, skips_len}
 use Rattle.source_items.specs.Values.{factor_value, product_value, sum_value, total}
 use Rattle.source_code.specs.Lengths.{IsLength}
-use Rattle.source_code.proofs.HeldLemmas.{length-pair}
+use Rattle.source_items.proofs.HeldLemmas.{length-pair}
 use Rattle.source_code.proofs.Rising.{line_rises}
 
 -- the length of a line is also the least number that the code is no longer than

@@ -1,5 +1,4 @@
 pub mod TotalLemmas
-pub mod HeldLemmas
 pub mod LoopLemmas
 pub mod Rising
 pub mod Climb

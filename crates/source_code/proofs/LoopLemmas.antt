@@ -13,7 +13,7 @@ use Rattle.source_items.specs.declared.lines.Factor.{Factor}
 use Rattle.source_items.specs.declared.lines.SourceItem.{SourceItem}
 use Rattle.source_items.specs.Lines.{item_of, pattern_of, skips_len}
 use Rattle.source_items.specs.Values.{factor_value, product_value, sum_value}
-use Rattle.source_code.proofs.HeldLemmas.{held_more, held_times_more, held_none, held_once, sum_held}
+use Rattle.source_items.proofs.HeldLemmas.{held_more, held_times_more, held_none, held_once, sum_held}
 
 -- the rest begins with the item at hand
 pub rest_at : {X : Type 0} (xs : List X) (i : ℕ) (x : X) → i < length xs → x ≡ get_or xs i x → drop i xs ≡ x ∷ drop (i + 1) xs

@@ -17,7 +17,7 @@ use Rattle.source_items.specs.declared.lines.SourceItem.{SourceItem}
 use Rattle.source_items.specs.declared.lines.SourceItem.TheVariants.{Fixed, Skip}
 use Rattle.source_items.specs.Lines.{are_small, is_small, is_small_item, is_small_skip, item_of, line_len, pattern_of, skips_len}
 use Rattle.source_items.specs.Values.{factor_value, product_value, sum_value}
-use Rattle.source_code.proofs.HeldLemmas.{length-pair}
+use Rattle.source_items.proofs.HeldLemmas.{length-pair}
 
 -- the code of a greater number is no shorter
 asnat_rises : (m n : ℕ) → m ≤ n → length (asnat m) ≤ length (asnat n)

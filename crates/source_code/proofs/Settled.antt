@@ -12,7 +12,7 @@ use Rattle.source_code.specs.Answers.{IsAnswer, IsLastBig}
 use Rattle.source_code.specs.Kept.{AreFound, Exact, IsFoundBig, IsRefusal}
 use Rattle.source_code.specs.Lengths.{AreLengths, Settles, dna}
 use Rattle.source_code.proofs.AlikeLines.{AreAlike, total_alike}
-use Rattle.source_code.proofs.HeldLemmas.{alike_small, held_of_small, held_over}
+use Rattle.source_items.proofs.HeldLemmas.{alike_small, held_of_small, held_over}
 use Rattle.source_code.proofs.LawLemmas.{code_has_length}
 use Rattle.source_code.proofs.Transfer.{all_kept, big_kept}
 

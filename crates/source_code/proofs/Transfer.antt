@@ -9,7 +9,7 @@ use Rattle.source_code.specs.Kept.{AreFound, IsFound}
 use Rattle.source_code.specs.Lengths.{IsBig, IsLength, Settles}
 use Rattle.source_code.proofs.AlikeLines.{AreAlike, len_same, line_alike}
 use Rattle.source_code.proofs.Existence.{IsLeast, has_least, least_is_length, length_is_least}
-use Rattle.source_code.proofs.HeldLemmas.{Alike, alike_small, both_big, held_alike}
+use Rattle.source_items.proofs.HeldLemmas.{Alike, alike_small, both_big, held_alike}
 use Rattle.source_code.proofs.Rising.{line_small}
 
 -- two lines, with lines behind them, whose values are alike

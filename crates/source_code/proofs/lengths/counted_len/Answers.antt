@@ -4,7 +4,7 @@ use Rattle.dna_reader.specs.Codes.{pattern_item_code}
 use Rattle.source_items.specs.Lines.{is_small}
 use Rattle.source_items.specs.Values.{sum_value}
 use Rattle.dna_items.specs.Held.{held}
-use Rattle.source_code.proofs.HeldLemmas.{held_zero, or_true, product_held}
+use Rattle.source_items.proofs.HeldLemmas.{held_zero, or_true, product_held}
 use Rattle.source_code.proofs.lengths.counted_len.Goals as goal
 
 pub returns-then-skip-eq0 : goal.returns-then-skip-eq0

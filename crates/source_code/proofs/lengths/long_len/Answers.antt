@@ -1,7 +1,7 @@
 use Rattle.std.proofs.Common.{◌+◌, ◌∙◌, ap, sym}
 use Rattle.dna_items.specs.Held.{held}
 use Rattle.source_items.specs.Lines.{skips_len}
-use Rattle.source_code.proofs.HeldLemmas.{sum_held}
+use Rattle.source_items.proofs.HeldLemmas.{sum_held}
 use Rattle.source_code.proofs.lengths.long_len.Goals as goal
 
 pub returns : goal.returns

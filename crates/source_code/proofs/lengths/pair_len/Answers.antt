@@ -1,5 +1,5 @@
 use Rattle.source_items.specs.Lines.{pattern_of}
-use Rattle.source_code.proofs.HeldLemmas.{pair_len_held}
+use Rattle.source_items.proofs.HeldLemmas.{pair_len_held}
 use Rattle.source_code.proofs.lengths.pair_len.Goals as goal
 
 pub returns : goal.returns

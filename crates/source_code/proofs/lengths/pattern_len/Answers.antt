@@ -2,7 +2,7 @@ use Rattle.std.proofs.Common.{length, refl}
 use Rattle.std.specs.List.{list_all}
 use Rattle.dna_reader.specs.Codes.{pattern_code}
 use Rattle.source_items.specs.Lines.{is_small_item, pattern_of}
-use Rattle.source_code.proofs.HeldLemmas.{held_start, held_zero, is_held}
+use Rattle.source_items.proofs.HeldLemmas.{held_start, held_zero, is_held}
 use Rattle.source_code.proofs.LoopLemmas.{all_end, all_more, pattern_end, pattern_more}
 use Rattle.source_code.proofs.lengths.pattern_len.Goals as goal
 

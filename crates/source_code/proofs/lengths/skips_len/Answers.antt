@@ -1,7 +1,7 @@
 use Rattle.std.proofs.Common.{◌∙◌, refl}
 use Rattle.std.specs.List.{list_all}
 use Rattle.source_items.specs.Lines.{is_small_skip, skips_len}
-use Rattle.source_code.proofs.HeldLemmas.{held_start, held_zero, is_held}
+use Rattle.source_items.proofs.HeldLemmas.{held_start, held_zero, is_held}
 use Rattle.source_code.proofs.LoopLemmas.{all_more, skips_alone, skips_more}
 use Rattle.source_code.proofs.lengths.skips_len.Goals as goal
 

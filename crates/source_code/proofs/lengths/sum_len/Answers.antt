@@ -2,7 +2,7 @@ use Rattle.std.proofs.Common.{◌≡◌, ℕ, ◌∙◌, ap, arith, length, sym}
 use Rattle.dna_items.specs.declared.items.PatItem.TheVariants.{Skip}
 use Rattle.dna_reader.specs.Codes.{pattern_item_code}
 use Rattle.source_items.specs.Values.{sum_value}
-use Rattle.source_code.proofs.HeldLemmas.{held_small}
+use Rattle.source_items.proofs.HeldLemmas.{held_small}
 use Rattle.source_code.proofs.lengths.sum_len.Goals as goal
 
 pub returns : goal.returns

@@ -1,6 +1,6 @@
 use Rattle.std.proofs.Common.{length}
 use Rattle.dna_reader.specs.Codes.{template_code}
-use Rattle.source_code.proofs.HeldLemmas.{held_zero, held_start, is_held}
+use Rattle.source_items.proofs.HeldLemmas.{held_zero, held_start, is_held}
 use Rattle.source_code.proofs.LoopLemmas.{template_more, template_end}
 use Rattle.source_code.proofs.lengths.template_len.Goals as goal
 

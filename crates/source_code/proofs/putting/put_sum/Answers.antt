@@ -3,7 +3,7 @@ use Rattle.std.specs.Prelude.{OnOk}
 use Rattle.dna_items.specs.declared.items.PatItem.TheVariants.{Skip}
 use Rattle.dna_reader.specs.Codes.{pattern_item_code}
 use Rattle.source_items.specs.Values.{sum_value}
-use Rattle.source_code.proofs.HeldLemmas.{below_is_small}
+use Rattle.source_items.proofs.HeldLemmas.{below_is_small}
 use Rattle.source_code.proofs.putting.put_sum.Goals as goal
 
 pub returns : goal.returns

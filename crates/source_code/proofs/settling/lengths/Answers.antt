@@ -1,5 +1,5 @@
 use Rattle.std.proofs.Common.{arith}
-use Rattle.source_code.proofs.HeldLemmas.{held_most}
+use Rattle.source_items.proofs.HeldLemmas.{held_most}
 use Rattle.source_code.proofs.settling.lengths.Goals as goal
 
 pub push-requires : goal.push-requires

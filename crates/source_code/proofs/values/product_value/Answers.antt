@@ -1,5 +1,5 @@
 use Rattle.source_items.specs.Values.{product_value}
-use Rattle.source_code.proofs.HeldLemmas.{held_one, held_start_times, is_held}
+use Rattle.source_items.proofs.HeldLemmas.{held_one, held_start_times, is_held}
 use Rattle.source_code.proofs.LoopLemmas.{product_more, product_end}
 use Rattle.source_code.proofs.values.product_value.Goals as goal
 

@@ -1,4 +1,4 @@
-use Rattle.source_code.proofs.HeldLemmas.{below_is_small, found_big, found_small}
+use Rattle.source_items.proofs.HeldLemmas.{below_is_small, found_big, found_small}
 use Rattle.source_code.proofs.values.small_value.Goals as goal
 
 pub returns-then-value : goal.returns-then-value

@@ -1,7 +1,7 @@
 use Rattle.std.proofs.Common.{ap, ◌∙◌}
 use Rattle.dna_items.specs.Held.{held}
 use Rattle.source_items.specs.Values.{product_value, sum_value}
-use Rattle.source_code.proofs.HeldLemmas.{held_zero, held_start, is_held}
+use Rattle.source_items.proofs.HeldLemmas.{held_zero, held_start, is_held}
 use Rattle.source_code.proofs.LoopLemmas.{sum_more, sum_end}
 use Rattle.source_code.proofs.values.sum_value.Goals as goal
 
