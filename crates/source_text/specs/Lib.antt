@@ -1,0 +1,12 @@
+pub mod Pieces
+pub mod Reading
+pub mod Names
+pub mod Sums
+pub mod Sequences
+pub mod Forms
+pub mod Judging
+pub mod Sources
+pub mod Measured
+pub mod Keeping
+pub mod Forming
+pub mod Taking
