@@ -1,0 +1,10 @@
+pub mod PlaceLemmas
+pub mod AnswerLemmas
+pub mod FixedLemmas
+pub mod Spelling
+pub mod PartLemmas
+pub mod JudgeLemmas
+pub mod StatementLemmas
+pub mod ScanLemmas
+pub mod PlainLemmas
+pub mod SourceLemmas
