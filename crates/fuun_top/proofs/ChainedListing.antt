@@ -31,10 +31,10 @@ use Rattle.fuun_words.specs.declared.request.Request.TheVariants as words
 use Rattle.fuun_top.proofs.ReadBack.{output_by, given_text, dna_back, kept_text}
 
 -- what was assembled, where there was no refusal
-record Assembled (text : List ℕ) (output : Output) : Type 0 where
-  code : List Base
-  is : IsAssembled text (Ok code)
-  tells : output ≡ record { status = Done; bytes = letters code }
+pub record Assembled (text : List ℕ) (output : Output) : Type 0 where
+  pub code : List Base
+  pub is : IsAssembled text (Ok code)
+  pub tells : output ≡ record { status = Done; bytes = letters code }
 
 by_answer : (text : List ℕ) (output : Output) (answer : Result (List Base) AsmError) → IsAssembled text answer → output ≡ answered letters (told assemble_refusal answer) → output.status ≡ Done → Assembled text output
 by_answer text output (Ok code) is tells done = record { code = code; is = is; tells = tells }
@@ -42,7 +42,7 @@ by_answer text output (Err (assemble.BadText number)) is tells done = absurd (cc
 by_answer text output (Err (assemble.Unreadable number)) is tells done = absurd (cc (tells, done))
 by_answer text output (Err assemble.NoMemory) is tells done = absurd is
 
-assembled_of : (text : List ℕ) (output : Output) → IsAnswer (IsMade texts.Assemble text) letters output → output.status ≡ Done → Assembled text output
+pub assembled_of : (text : List ℕ) (output : Output) → IsAnswer (IsMade texts.Assemble text) letters output → output.status ≡ Done → Assembled text output
 assembled_of text output answer done = by_answer text output answer.is.answer answer.is.is (answer.tells ∙ ap (answered letters) answer.is.tells) done
 
 -- the listing of a DNA that was read

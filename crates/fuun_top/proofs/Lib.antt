@@ -16,5 +16,6 @@ pub mod ChainedRewind
 pub mod ChainedPatches
 pub mod ExplainedPatches
 pub mod ChainedListing
+pub mod ChainedSources
 pub mod ChainedPicture
 pub mod CarriedLoads

@@ -27,7 +27,7 @@ use Rattle.fuun_top.specs.declared.status.InFile.TheVariants as file
 use Rattle.fuun_top.specs.declared.status.Status.{Status}
 use Rattle.fuun_top.specs.declared.status.Status.TheVariants.{Done, Usage}
 use Rattle.fuun_top.specs.Output.{Output, Body, Text, Drawing, IsBody, IsRunOutput, IsTraceOutput, IsListingOutput, IsRewindOutput, IsBenchOutput, IsAnswer, IsOutputOf, answered, OutputBy, OutputOf, plain_body, run_body, spent_is_done, status_by, refusal, picture_side, most_layers}
-use Rattle.fuun_top.specs.Making.{IsExplanation, IsMade, assemble_refusal, drawn, explain_refusal, patch_prefix, told}
+use Rattle.fuun_top.specs.Making.{IsExplanation, IsMade, assemble_refusal, drawn, explain_refusal, patch_prefix, source_refusal, told}
 use Rattle.fuun_top.specs.Bench.{load_dna, load_limit, summary_of}
 use Rattle.fuun_top.specs.OutputLaws.{IsTold, AreTold, HasOutput, HasOneOutput}
 use Rattle.fuun_top.specs.Reading.{Files, Reading, then_read, within, bytes_in, dna_in, judged_dna, Called, prefix_in, prefix_files, run_files, files_of, rna_in, judged_rna, start_in, text_file, script_in, judged_script, guided_in, guiding_files, inputs_of}
@@ -38,6 +38,7 @@ use Rattle.fuun_words.specs.declared.request.Request.{Request}
 use Rattle.fuun_words.specs.declared.request.RunWords.{RunWords}
 use Rattle.fuun_words.specs.Requests.{request}
 use Rattle.fuun_top.specs.Texts.{letters}
+use Rattle.source_compile.proofs.AnswerLemmas.{source_answer_is_one, source_has_answer}
 use Rattle.tracer.specs.Lines.{trace_text}
 use Rattle.rewinder.specs.declared.orders.Order.{Order}
 use Rattle.explainer.specs.declared.explained.Explained.{Explained}
@@ -132,11 +133,13 @@ answer_one Is text once a b p q = p.tells ∙ ap (answered text) (once p.made q.
 made_has : (verb : TextVerb) (text : List ℕ) → (made : Result (List Base) Status) × IsMade verb text made
 made_has (texts.Patch limit) text = (patch_prefix limit text, refl)
 made_has texts.Assemble text = let answer = has_answer (lines text) in (told assemble_refusal answer.0, record { answer = answer.0; is = answer.1; tells = refl })
+made_has (texts.Compile limit) text = let answer = source_has_answer limit text in (told source_refusal answer.0, record { answer = answer.0; is = answer.1; tells = refl })
 made_has (texts.Picture limit) text = (drawn limit (picture_of text), refl)
 
 made_one : (verb : TextVerb) (text : List ℕ) (a b : Result (List Base) Status) → IsMade verb text a → IsMade verb text b → a ≡ b
 made_one (texts.Patch limit) text a b p q = p ∙ sym q
 made_one texts.Assemble text a b p q = p.tells ∙ ap (told assemble_refusal) (answer_is_one (lines text) p.answer q.answer p.is q.is) ∙ sym q.tells
+made_one (texts.Compile limit) text a b p q = p.tells ∙ ap (told source_refusal) (source_answer_is_one limit text p.answer q.answer p.is q.is) ∙ sym q.tells
 made_one (texts.Picture limit) text a b p q = p ∙ sym q
 
 explanation_has : (prefix : List Base) (len attempts limit : ℕ) → (made : Result Explained Status) × IsExplanation prefix len attempts limit made

@@ -12,6 +12,8 @@ use Rattle.patch_compile.specs.declared.compiling.CompileError.TheVariants as co
 use Rattle.patch_compile.specs.Compiled.{compiled}
 use Rattle.assembler.specs.declared.assembling.AsmError.{AsmError}
 use Rattle.assembler.specs.declared.assembling.AsmError.TheVariants as assemble
+use Rattle.source_compile.specs.declared.compiling.SourceError.{SourceError}
+use Rattle.source_compile.specs.declared.compiling.SourceError.TheVariants as source
 use Rattle.picture_in.specs.Pixmap.{Rgb, picture_of}
 use Rattle.draw_compile.specs.Drawing.{drawing}
 use Rattle.explainer.specs.declared.explained.Explained.{Explained}
@@ -24,7 +26,7 @@ use Rattle.fuun_top.specs.declared.request.TextVerb.{TextVerb}
 use Rattle.fuun_top.specs.declared.request.TextVerb.TheVariants as texts
 use Rattle.fuun_top.specs.declared.status.Status.{Status}
 use Rattle.fuun_top.specs.declared.status.Status.TheVariants.{Done, TooLong}
-use Rattle.fuun_top.specs.Making.{IsExplanation, IsMade, assemble_refusal, compile_refusal, drawn, explain_refusal, patch_refusal, told, then_made}
+use Rattle.fuun_top.specs.Making.{IsExplanation, IsMade, assemble_refusal, compile_refusal, drawn, explain_refusal, patch_refusal, source_refusal, told, then_made}
 use Rattle.fuun_top.specs.Output.{Output, Body, Text, Drawing, IsBody, IsOutputOf, answered, plain_body, run_body, spent_is_done, status_by}
 use Rattle.fuun_top.specs.Stages.{ByOutput, IsOfOutput, stage_of}
 use Rattle.fuun_top.specs.Texts.{letters}
@@ -70,6 +72,14 @@ assemble_refused (assemble.BadText number) = tt
 assemble_refused (assemble.Unreadable number) = tt
 assemble_refused assemble.NoMemory = tt
 
+source_refused : (error : SourceError) → IsOfOutput (stage_of (source_refusal error))
+source_refused (source.BadSource place) = tt
+source_refused (source.BadName place) = tt
+source_refused (source.BadNumber place) = tt
+source_refused (source.NoCode place) = tt
+source_refused source.TooLong = tt
+source_refused source.NoMemory = tt
+
 within_refused : (over : Bool) (dna : List Base) → IsRefused (if over then Err (TooLong 0) else Ok dna)
 within_refused true dna = tt
 within_refused false dna = tt
@@ -84,6 +94,7 @@ made_refused (texts.Patch limit) text made is =
     subst IsRefused (sym is)
     (then_refused (told patch_refusal (patches text)) _ (told_refused patch_refusal (patches text) patch_refused) (λ contents. told_refused compile_refusal (compiled contents limit) compile_refused))
 made_refused texts.Assemble text made is = subst IsRefused (sym is.tells) (told_refused assemble_refusal is.answer assemble_refused)
+made_refused (texts.Compile limit) text made is = subst IsRefused (sym is.tells) (told_refused source_refusal is.answer source_refused)
 made_refused (texts.Picture limit) text made is = subst IsRefused (sym is) (drawn_refused limit (picture_of text))
 
 explain_refused : (error : ExplainError) → IsOfOutput (stage_of (explain_refusal error))

@@ -20,6 +20,7 @@ sorted (words.List name count) = Listing name count
 sorted (words.Patch name limit) = Text (text.Patch limit) name
 sorted (words.Bench seed size rounds) = Bench seed size rounds
 sorted (words.Assemble name) = Text text.Assemble name
+sorted (words.Compile name limit) = Text (text.Compile limit) name
 sorted (words.Picture name limit) = Text (text.Picture limit) name
 sorted (words.Explain asked) = Explain asked
 sorted (words.Rewind asked) = Rewind asked

@@ -65,6 +65,15 @@ AssembledIsListed =
     → (pairs : List Pair) × AreTexts (lines text) pairs
     × (listed ≡ record { status = Done; bytes = shown_from count 0 (lines text) pairs })
 
+-- what is assembled of a file is compiled of it too, under a limit that the DNA is within
+abbrev pub AssembledIsCompiled : Type 0
+AssembledIsCompiled =
+    (files : Files) (name text : List ℕ) (limit : ℕ) (assembled compiled : Output)
+    → IsKept files name text
+    → Gives files (words.Assemble name) assembled → assembled.status ≡ Done → length assembled.bytes ≤ limit + 1
+    → Gives files (words.Compile name limit) compiled
+    → compiled ≡ assembled
+
 -- a listing of pairs, its places cut off, is assembled to a DNA that is read as the same pairs and leaves nothing
 abbrev pub ListedIsAssembledAgain : Type 0
 ListedIsAssembledAgain =

@@ -10,6 +10,9 @@ use Rattle.patch_compile.specs.Compiled.{compiled}
 use Rattle.assembler.specs.declared.assembling.AsmError.{AsmError}
 use Rattle.assembler.specs.declared.assembling.AsmError.TheVariants as assemble
 use Rattle.assembler.specs.Answers.{IsAssembled}
+use Rattle.source_compile.specs.declared.compiling.SourceError.{SourceError}
+use Rattle.source_compile.specs.declared.compiling.SourceError.TheVariants as source
+use Rattle.source_compile.specs.Compiled.{IsCompiled}
 use Rattle.picture_in.specs.Pixmap.{Rgb, picture_of}
 use Rattle.draw_compile.specs.Drawing.{drawing}
 use Rattle.explainer.specs.declared.explained.Explained.{Explained}
@@ -17,9 +20,9 @@ use Rattle.explainer.specs.declared.explained.ExplainError.{ExplainError}
 use Rattle.explainer.specs.declared.explained.ExplainError.TheVariants as explain
 use Rattle.explainer.specs.Answers.{IsExplained}
 use Rattle.fuun_top.specs.declared.request.TextVerb.{TextVerb}
-use Rattle.fuun_top.specs.declared.request.TextVerb.TheVariants.{Patch, Assemble, Picture}
+use Rattle.fuun_top.specs.declared.request.TextVerb.TheVariants.{Patch, Assemble, Compile, Picture}
 use Rattle.fuun_top.specs.declared.status.Status.{Status}
-use Rattle.fuun_top.specs.declared.status.Status.TheVariants.{TooLong, BadToml, BadPatch, Outside, BadText, Unreadable, Depends, BadPpm, NoMemory}
+use Rattle.fuun_top.specs.declared.status.Status.TheVariants.{TooLong, BadToml, BadPatch, Outside, BadText, Unreadable, Depends, BadPpm, BadSource, BadName, BadNumber, NoCode, NoMemory}
 
 -- a value, or the status that tells an error
 abbrev pub told : {A E : Type 0} → (E → Status) → Result A E → Result A Status
@@ -59,6 +62,21 @@ pub record IsAssembledText (text : List ℕ) (made : Result (List Base) Status) 
   pub is : IsAssembled text answer
   pub tells : made ≡ told assemble_refusal answer
 
+-- why a source is not compiled
+abbrev pub source_refusal : SourceError → Status
+source_refusal (source.BadSource place) = BadSource place.line place.column
+source_refusal (source.BadName place) = BadName place.line place.column
+source_refusal (source.BadNumber place) = BadNumber place.line place.column
+source_refusal (source.NoCode place) = NoCode place.line place.column
+source_refusal source.TooLong = TooLong 0
+source_refusal source.NoMemory = NoMemory
+
+-- a source is compiled to a DNA of at most so many bases, or refused
+pub record IsCompiledText (limit : ℕ) (text : List ℕ) (made : Result (List Base) Status) : Type 0 where
+  pub answer : Result (List Base) SourceError
+  pub is : IsCompiled limit text answer
+  pub tells : made ≡ told source_refusal answer
+
 -- a DNA of at most so many bases that draws a picture
 abbrev pub drawn_within : ℕ → List Base → Result (List Base) Status
 drawn_within limit dna = if nat_lt limit (length dna) then Err (TooLong 0) else Ok dna
@@ -84,4 +102,5 @@ pub record IsExplanation (prefix : List Base) (len attempts limit : ℕ) (made :
 abbrev pub IsMade : TextVerb → List ℕ → Result (List Base) Status → Type 0
 IsMade (Patch limit) text made = made ≡ patch_prefix limit text
 IsMade Assemble text made = IsAssembledText text made
+IsMade (Compile limit) text made = IsCompiledText limit text made
 IsMade (Picture limit) text made = made ≡ drawn limit (picture_of text)

@@ -46,6 +46,7 @@ run_files words = (file.Dna, words.dna) ∷ prefix_files words.prefix
 abbrev pub text_file : TextVerb → InFile
 text_file (text.Patch limit) = file.Patch
 text_file text.Assemble = file.Text
+text_file (text.Compile limit) = file.Source
 text_file (text.Picture limit) = file.Ppm
 
 -- the prefix file, where there is one, and then the script

@@ -12,7 +12,7 @@ use Rattle.fuun_top.specs.Stages.{stage_of, IsOfInputs}
 use Rattle.fuun_top.specs.declared.request.Asked.{Asked}
 use Rattle.fuun_top.specs.declared.request.Asked.TheVariants.{Run, Trace, Rna, Listing, Text, Explain, Rewind, Bench}
 use Rattle.fuun_top.specs.declared.request.TextVerb.{TextVerb}
-use Rattle.fuun_top.specs.declared.request.TextVerb.TheVariants.{Patch, Assemble, Picture}
+use Rattle.fuun_top.specs.declared.request.TextVerb.TheVariants.{Patch, Assemble, Compile, Picture}
 use Rattle.fuun_words.specs.Requests.{IsRunInRange, IsExplanationInRange}
 
 -- contents were judged so, or memory was wanted
@@ -36,6 +36,7 @@ pub record Reads {A : Type 0} (files : Files) (called : List Called) (known : Re
 abbrev pub IsTextInRange : TextVerb → Type 0
 IsTextInRange (Patch limit) = limit ≤ 2 ^ 40
 IsTextInRange Assemble = Unit {0}
+IsTextInRange (Compile limit) = limit ≤ 2 ^ 40
 IsTextInRange (Picture limit) = limit ≤ 2 ^ 40
 
 -- the numbers of a load are ones that it is drawn from

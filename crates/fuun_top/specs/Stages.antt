@@ -1,6 +1,6 @@
 -- Where in a call a status is decided.
 use Rattle.fuun_top.specs.declared.status.Status.{Status}
-use Rattle.fuun_top.specs.declared.status.Status.TheVariants.{Done, Usage, OutOfBudget, TooLong, BadBase, BadRna, BadToml, BadPatch, Outside, BadText, Unreadable, Depends, BadScript, BadPpm, InputTooLong, ReadFault, WriteFault, NoMemory, StartTooLong}
+use Rattle.fuun_top.specs.declared.status.Status.TheVariants.{Done, Usage, OutOfBudget, TooLong, BadBase, BadRna, BadToml, BadPatch, Outside, BadText, Unreadable, Depends, BadScript, BadPpm, BadSource, BadName, BadNumber, NoCode, InputTooLong, ReadFault, WriteFault, NoMemory, StartTooLong}
 
 -- the words, the reading of a file, what a file holds, the output that is defined, its writing; memory is wanted anywhere
 pub data Stage : Type 0 where
@@ -27,6 +27,10 @@ stage_of (Unreadable line) = ByContents
 stage_of (Depends attempt) = ByContents
 stage_of (BadScript line) = ByContents
 stage_of BadPpm = ByContents
+stage_of (BadSource line column) = ByContents
+stage_of (BadName line column) = ByContents
+stage_of (BadNumber line column) = ByContents
+stage_of (NoCode line column) = ByContents
 stage_of (InputTooLong file) = ByReading
 stage_of ReadFault = ByReading
 stage_of WriteFault = ByWriting

@@ -5,7 +5,7 @@
 ghost use Rattle.fuun_top.specs.OutputLaws.{HasOutput, HasOneOutput};
 ghost use Rattle.fuun_top.specs.RunChains.{RnaGoesOn, DnaGoesOn, TraceGoesOn, DrawnRnaIsImage, DrawnPartsAreImage, RewoundAgrees};
 ghost use Rattle.fuun_top.specs.BenchLaws.{LoadsAreCarriedOut, LoadsAreSummedUp};
-ghost use Rattle.fuun_top.specs.MadeChains.{PatchesAreCarriedOut, AssembledIsListed, ListedIsAssembledAgain, DrawnPictureIsSame, OwnPictureIsSame, PatchIsExplained};
+ghost use Rattle.fuun_top.specs.MadeChains.{PatchesAreCarriedOut, AssembledIsCompiled, AssembledIsListed, ListedIsAssembledAgain, DrawnPictureIsSame, OwnPictureIsSame, PatchIsExplained};
 
 /// Words over files that are told have exactly one output.
 pub fn one_output()
@@ -37,6 +37,11 @@ pub fn patches_are_carried_out()
 pub fn assembled_is_listed()
     ensures shown { AssembledIsListed }
     ensures again { ListedIsAssembledAgain }
+{}
+
+/// What `assemble` writes of a file, `compile` writes of it too, under a limit that the DNA is within.
+pub fn assembled_is_compiled()
+    ensures { AssembledIsCompiled }
 {}
 
 /// The `image` of what `picture` wrote is the pixmap's picture, and the pixmap itself where `draw` or `image` wrote it.

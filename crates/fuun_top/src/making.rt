@@ -5,7 +5,7 @@ ghost use Rattle.patch_compile.specs.Compiled.{compiled};
 ghost use Rattle.picture_in.specs.Pixmap.{picture_of};
 ghost use Rattle.explainer.specs.Lines.{explained_text};
 ghost use Rattle.fuun_top.specs.declared.inputs.Inputs.TheVariants as inputs;
-ghost use Rattle.fuun_top.specs.Making.{IsAssembledText, IsExplanation, IsMade, compile_refusal, drawn, drawn_within, patch_prefix, told};
+ghost use Rattle.fuun_top.specs.Making.{IsAssembledText, IsCompiledText, IsExplanation, IsMade, compile_refusal, drawn, drawn_within, patch_prefix, source_refusal, told};
 ghost use Rattle.fuun_top.specs.Output.{IsAnswer};
 ghost use Rattle.fuun_top.specs.Reading.{most_bytes};
 ghost use Rattle.fuun_top.specs.ReadingRoom.{AreInRange, IsTextInRange};
@@ -24,6 +24,7 @@ use fuun_io::Sink;
 use patch_compile::{CompileError, compile};
 use patch_text::{PatchError, PatchFile, read_patches};
 use picture_in::{Picture, PpmError, read_ppm};
+use source_compile::SourceError;
 use std::alloc::Global;
 
 /// Writes the letters of the DNA that a verb makes of a text, or answers why there is none.
@@ -53,6 +54,7 @@ fn made_of(alloc: Global, verb: TextVerb, text: &List<u8>) -> Result<BaseList, S
     match verb {
         TextVerb::Patch { limit } => compiled_text(alloc, text.as_slice(), limit),
         TextVerb::Assemble => assembled(alloc, text.as_slice()),
+        TextVerb::Compile { limit } => compiled_source(alloc, text.as_slice(), limit),
         TextVerb::Picture { limit } => drawn_file(alloc, text.as_slice(), limit),
     }
 }
@@ -94,6 +96,43 @@ fn assembled(alloc: Global, text: &[u8]) -> Result<BaseList, Status>
         Err(AsmError::BadText { line }) => Err(Status::BadText { line }),
         Err(AsmError::Unreadable { line }) => Err(Status::Unreadable { line }),
         Err(AsmError::NoMemory) => Err(Status::NoMemory),
+    }
+}
+
+/// The DNA that a source compiles to, of at most `limit` bases.
+fn compiled_source(alloc: Global, source: &[u8], limit: u64) -> Result<BaseList, Status>
+    requires { limit ≤ 2 ^ 40 }
+    ensures { Makes (IsCompiledText limit source.now) result }
+{
+    match source_compile::compile(alloc, source, limit) {
+        Ok(dna) => Ok(dna),
+        Err(error) => Err(source_refusal(error)),
+    }
+}
+
+/// The status that tells why a source has no DNA.
+fn source_refusal(error: SourceError) -> Status
+    ensures { result ≡ source_refusal error }
+{
+    match error {
+        SourceError::BadSource(place) => Status::BadSource {
+            line: place.line,
+            column: place.column,
+        },
+        SourceError::BadName(place) => Status::BadName {
+            line: place.line,
+            column: place.column,
+        },
+        SourceError::BadNumber(place) => Status::BadNumber {
+            line: place.line,
+            column: place.column,
+        },
+        SourceError::NoCode(place) => Status::NoCode {
+            line: place.line,
+            column: place.column,
+        },
+        SourceError::TooLong => Status::TooLong { attempt: 0 },
+        SourceError::NoMemory => Status::NoMemory,
     }
 }
 

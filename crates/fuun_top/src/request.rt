@@ -35,6 +35,8 @@ pub(crate) enum TextVerb {
     Patch { limit: u64 },
     /// The DNA that is read as the pairs of a listing's text.
     Assemble,
+    /// The DNA that a source compiles to, of at most so many bases.
+    Compile { limit: u64 },
     /// A DNA that draws a picture, of at most so many bases.
     Picture { limit: u64 },
 }
@@ -47,6 +49,7 @@ impl TextVerb {
         match self {
             TextVerb::Patch { .. } => InFile::Patch,
             TextVerb::Assemble => InFile::Text,
+            TextVerb::Compile { .. } => InFile::Source,
             TextVerb::Picture { .. } => InFile::Ppm,
         }
     }
@@ -90,6 +93,7 @@ pub(crate) fn sorted(request: Request) -> Asked
         Request::Patch { file, limit } => Asked::Text(TextVerb::Patch { limit }, file),
         Request::Bench { seed, size, rounds } => Asked::Bench { seed, size, rounds },
         Request::Assemble { text } => Asked::Text(TextVerb::Assemble, text),
+        Request::Compile { source, limit } => Asked::Text(TextVerb::Compile { limit }, source),
         Request::Picture { ppm, limit } => Asked::Text(TextVerb::Picture { limit }, ppm),
         Request::Explain(words) => Asked::Explain(words),
         Request::Rewind(words) => Asked::Rewind(words),

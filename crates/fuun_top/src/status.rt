@@ -1,7 +1,7 @@
 ghost use Rattle.std.specs.Prelude.{◌≡◌, ◌++◌, codes, decimal};
 ghost use Rattle.fuun_io.specs.Counts.{HasCause};
 ghost use Rattle.fuun_io.specs.Written.{Puts};
-ghost use Rattle.fuun_top.specs.StatusLine.{file_name, line, number_of, status_line};
+ghost use Rattle.fuun_top.specs.StatusLine.{file_name, line, number_of, placed_line, status_line};
 
 use fuun_io::{Sink, WriteFault, put_pieces};
 use itoa::Buffer;
@@ -16,6 +16,7 @@ pub enum InFile {
     Text,
     Script,
     Ppm,
+    Source,
 }
 
 /// How a call of the program ended.
@@ -60,6 +61,14 @@ pub enum Status {
     BadScript { line: u64 },
     /// The file does not begin as a picture of 600 by 600 pixels.
     BadPpm,
+    /// At this line and column of the source, each counted from 1, a statement is in no form.
+    BadSource { line: u64, column: u64 },
+    /// At this line and column of the source stands a name that does not serve there.
+    BadName { line: u64, column: u64 },
+    /// At this line and column of the source stands a number of 2^63 or more, or the arrow of a pair with such a sum.
+    BadNumber { line: u64, column: u64 },
+    /// At this line and column of the source no DNA has the pattern any more.
+    NoCode { line: u64, column: u64 },
 }
 
 impl InFile {
@@ -74,6 +83,7 @@ impl InFile {
             InFile::Text => "text",
             InFile::Script => "script",
             InFile::Ppm => "ppm",
+            InFile::Source => "source",
         }
     }
 }
@@ -103,6 +113,10 @@ impl Status {
             Status::Depends { .. } => 17,
             Status::BadScript { .. } => 18,
             Status::BadPpm => 19,
+            Status::BadSource { .. } => 20,
+            Status::BadName { .. } => 21,
+            Status::BadNumber { .. } => 22,
+            Status::NoCode { .. } => 23,
         }
     }
 }
@@ -139,6 +153,14 @@ pub fn put_status<S: Sink>(status: &Status, sink: &mut S) -> Result<(), WriteFau
         }
         Status::BadScript { line } => put_numbered(sink, b"script: line ", line, b" is refused"),
         Status::BadPpm => put_pieces(sink, &[b"fuun: ppm: refused\n"]),
+        Status::BadSource { line, column } => put_placed(sink, line, column, b": out of form"),
+        Status::BadName { line, column } => {
+            put_placed(sink, line, column, b": a name that does not serve")
+        }
+        Status::BadNumber { line, column } => put_placed(sink, line, column, b": 2^63 or more"),
+        Status::NoCode { line, column } => {
+            put_placed(sink, line, column, b": no DNA has this pattern")
+        }
     }
 }
 
@@ -193,6 +215,32 @@ fn put_numbered<S: Sink>(
             b"fuun: ",
             before,
             buffer.format(number).as_bytes(),
+            after,
+            b"\n",
+        ],
+    )
+}
+
+// Writes a line that tells of a place of the source.
+fn put_placed<S: Sink>(
+    sink: &mut S,
+    number: u64,
+    column: u64,
+    after: &[u8],
+) -> Result<(), WriteFault>
+    ensures puts { Puts result (S.bytes sink.old) (S.bytes sink.new) (placed_line number column after.now) }
+    ensures cause { HasCause (S.faults sink.old) (S.faults sink.new) result }
+{
+    let mut line_buffer = Buffer::new();
+    let mut column_buffer = Buffer::new();
+    put_pieces(
+        sink,
+        &[
+            b"fuun: ",
+            b"source: line ",
+            line_buffer.format(number).as_bytes(),
+            b", column ",
+            column_buffer.format(column).as_bytes(),
             after,
             b"\n",
         ],

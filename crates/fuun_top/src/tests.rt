@@ -353,6 +353,61 @@ fn patches_of_small_files(rt: HostRuntime) -> Result<(), Fail> {
 }
 
 #[test]
+fn sources_of_small_files(rt: HostRuntime) -> Result<(), Fail> {
+    let nothing = b"".as_slice();
+    let black = b"-> black".as_slice();
+    let code = b"IICCCCICCICCCCFIIC\n".as_slice();
+    for (line, file, status, bytes) in [
+        ("compile --source a", black, Status::Done, code),
+        ("compile --source a --limit 18", black, Status::Done, code),
+        (
+            "compile --limit=17 --source a",
+            black,
+            Status::TooLong { attempt: 0 },
+            nothing,
+        ),
+        ("compile --source a", nothing, Status::Done, b"\n"),
+        (
+            "compile --source a",
+            b"-> blak",
+            Status::BadName { line: 1, column: 4 },
+            nothing,
+        ),
+        (
+            "compile --source a",
+            b"(!x)",
+            Status::BadSource { line: 1, column: 5 },
+            nothing,
+        ),
+        (
+            "compile --source a",
+            b"!{9223372036854775807+1} ->",
+            Status::BadNumber {
+                line: 1,
+                column: 26,
+            },
+            nothing,
+        ),
+        (
+            "compile --source a",
+            b") -> ",
+            Status::NoCode { line: 1, column: 1 },
+            nothing,
+        ),
+        (
+            "compile --source unknown",
+            black,
+            Status::ReadFault,
+            nothing,
+        ),
+    ] {
+        let words = words(rt.alloc(), line)?;
+        expect::<Brand>(&rt, rt.alloc(), Blank::new(1), &words, file, status, bytes)?;
+    }
+    Ok(())
+}
+
+#[test]
 fn prefixes_carry_patches_out(rt: HostRuntime) -> Result<(), Fail> {
     let nothing = b"".as_slice();
     let bases = b"CFPC".as_slice();
@@ -612,6 +667,32 @@ fn statuses_have_their_lines(rt: HostRuntime) -> Result<(), Fail> {
             b"fuun: script: line 2 is refused\n".as_slice(),
         ),
         (Status::BadPpm, 19, b"fuun: ppm: refused\n".as_slice()),
+        (
+            Status::BadSource { line: 1, column: 5 },
+            20,
+            b"fuun: source: line 1, column 5: out of form\n".as_slice(),
+        ),
+        (
+            Status::BadName { line: 3, column: 4 },
+            21,
+            b"fuun: source: line 3, column 4: a name that does not serve\n".as_slice(),
+        ),
+        (
+            Status::BadNumber {
+                line: 2,
+                column: 26,
+            },
+            22,
+            b"fuun: source: line 2, column 26: 2^63 or more\n".as_slice(),
+        ),
+        (
+            Status::NoCode {
+                line: 10,
+                column: 1,
+            },
+            23,
+            b"fuun: source: line 10, column 1: no DNA has this pattern\n".as_slice(),
+        ),
     ] {
         let mut sink = MemSink::with_room(rt.alloc(), 64)?;
         put_status(&status, &mut sink)?;

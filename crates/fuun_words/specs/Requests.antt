@@ -13,7 +13,7 @@ use Rattle.fuun_words.specs.declared.request.RewindWords.{RewindWords}
 use Rattle.fuun_words.specs.declared.request.WordsError.{WordsError}
 use Rattle.fuun_words.specs.declared.request.WordsError.TheVariants.{Usage}
 use Rattle.fuun_words.specs.declared.verb.Verb.{Verb}
-use Rattle.fuun_words.specs.declared.verb.Verb.TheVariants.{Rna, Image, Trace, Dna, Draw, Names, List as Pairs, Patch, Bench, Assemble, Picture, Explain, Rewind}
+use Rattle.fuun_words.specs.declared.verb.Verb.TheVariants.{Rna, Image, Trace, Dna, Draw, Names, List as Pairs, Patch, Bench, Assemble, Compile, Picture, Explain, Rewind}
 
 -- the texts of words
 abbrev pub texts : {Z : Type 0} → List (String Z) → List (List ℕ)
@@ -88,6 +88,7 @@ request_of Pairs rows = both asked.List (first_of (codes "dna") rows) (number_of
 request_of Patch rows = both asked.Patch (first_of (codes "file") rows) (limit_of rows)
 request_of Bench rows = bench_of rows
 request_of Assemble rows = option_map asked.Assemble (first_of (codes "text") rows)
+request_of Compile rows = both asked.Compile (first_of (codes "source") rows) (limit_of rows)
 request_of Picture rows = both asked.Picture (first_of (codes "ppm") rows) (limit_of rows)
 request_of Explain rows = option_map asked.Explain (explanation_of rows)
 request_of Rewind rows = option_map asked.Rewind (rewound_of rows)
@@ -126,6 +127,7 @@ IsInRange (asked.List dna count) = count ≤ 2 ^ 40
 IsInRange (asked.Patch file limit) = (1 ≤ limit) × (limit ≤ 2 ^ 40)
 IsInRange (asked.Bench seed size rounds) = (seed < 2 ^ 31) × (size ≤ 2 ^ 24) × (rounds ≤ 2 ^ 16)
 IsInRange (asked.Assemble text) = Unit {0}
+IsInRange (asked.Compile source limit) = (1 ≤ limit) × (limit ≤ 2 ^ 40)
 IsInRange (asked.Picture ppm limit) = (1 ≤ limit) × (limit ≤ 2 ^ 40)
 IsInRange (asked.Explain words) = IsExplanationInRange words
 IsInRange (asked.Rewind words) = (1 ≤ words.limit) × (words.limit ≤ 2 ^ 40)

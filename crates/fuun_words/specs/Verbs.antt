@@ -5,7 +5,7 @@ use Rattle.clap.specs.Walk.{Text}
 use Rattle.fuun_words.specs.Commands.{VerbOption}
 use Rattle.fuun_words.specs.declared.verb.Need.TheVariants.{Required, Optional}
 use Rattle.fuun_words.specs.declared.verb.Verb.{Verb}
-use Rattle.fuun_words.specs.declared.verb.Verb.TheVariants.{Rna, Image, Trace, Dna, Draw, Names, List as Pairs, Patch, Bench, Assemble, Picture, Explain, Rewind}
+use Rattle.fuun_words.specs.declared.verb.Verb.TheVariants.{Rna, Image, Trace, Dna, Draw, Names, List as Pairs, Patch, Bench, Assemble, Compile, Picture, Explain, Rewind}
 
 -- the verbs by their names
 abbrev pub verbs : List (Text × Verb)
@@ -20,6 +20,7 @@ verbs =
     ∷ (codes "patch", Patch)
     ∷ (codes "bench", Bench)
     ∷ (codes "assemble", Assemble)
+    ∷ (codes "compile", Compile)
     ∷ (codes "picture", Picture)
     ∷ (codes "explain", Explain)
     ∷ (codes "rewind", Rewind)
@@ -47,6 +48,7 @@ options_of Pairs = (codes "dna", Required) ∷ (codes "count", Required) ∷ []
 options_of Patch = (codes "file", Required) ∷ (codes "limit", Optional) ∷ []
 options_of Bench = (codes "seed", Required) ∷ (codes "size", Required) ∷ (codes "rounds", Required) ∷ []
 options_of Assemble = (codes "text", Required) ∷ []
+options_of Compile = (codes "source", Required) ∷ (codes "limit", Optional) ∷ []
 options_of Picture = (codes "ppm", Required) ∷ (codes "limit", Optional) ∷ []
 options_of Explain =
     (codes "prefix", Required) ∷ (codes "length", Required) ∷ (codes "attempts", Required) ∷ (codes "limit", Optional) ∷ []

@@ -68,6 +68,10 @@ fn request_from(alloc: Global, verb: Verb, matches: &ArgMatches<'_>) -> Result<R
         Verb::Assemble => Ok(Request::Assemble {
             text: required_name(alloc, matches, "text")?,
         }),
+        Verb::Compile => Ok(Request::Compile {
+            source: required_name(alloc, matches, "source")?,
+            limit: limit(matches)?,
+        }),
         Verb::Picture => Ok(Request::Picture {
             ppm: required_name(alloc, matches, "ppm")?,
             limit: limit(matches)?,

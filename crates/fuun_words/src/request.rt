@@ -43,6 +43,8 @@ pub enum Request {
     Bench { seed: u64, size: u64, rounds: u64 },
     /// The DNA of a listing's text.
     Assemble { text: Name },
+    /// The DNA that a source compiles to, of at most `limit` bases: from 1 to 2^40.
+    Compile { source: Name, limit: u64 },
     /// A DNA of at most `limit` bases that draws a picture: from 1 to 2^40.
     Picture { ppm: Name, limit: u64 },
     /// What a prefix does to every DNA of a length.

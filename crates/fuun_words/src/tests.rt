@@ -63,6 +63,10 @@ fn words_ask(rt: HostRuntime) -> Result<(), Fail> {
             r#"Assemble { text: Name { text: "t" } }"#,
         ),
         (
+            "compile --limit=5 --source s",
+            r#"Compile { source: Name { text: "s" }, limit: 5 }"#,
+        ),
+        (
             "picture --ppm p",
             r#"Picture { ppm: Name { text: "p" }, limit: 67108864 }"#,
         ),
@@ -130,6 +134,8 @@ fn other_words_are_refused(rt: HostRuntime) -> Result<(), Fail> {
         "bench --seed 0 --size 0 --rounds 65537",
         "assemble",
         "assemble --text t --limit 1",
+        "compile --limit 1",
+        "compile --source s --limit 0",
         "picture --limit 1",
         "picture --ppm p --limit 0",
         "explain --prefix p --length 1",

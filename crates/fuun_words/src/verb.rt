@@ -16,6 +16,7 @@ pub(crate) enum Verb {
     Patch,
     Bench,
     Assemble,
+    Compile,
     Picture,
     Explain,
     Rewind,
@@ -60,6 +61,8 @@ static BENCH: [VerbOption; 3] = [
 
 static ASSEMBLE: [VerbOption; 1] = [("text", Need::Required)];
 
+static COMPILE: [VerbOption; 2] = [("source", Need::Required), ("limit", Need::Optional)];
+
 static PICTURE: [VerbOption; 2] = [("ppm", Need::Required), ("limit", Need::Optional)];
 
 static EXPLAIN: [VerbOption; 4] = [
@@ -92,6 +95,7 @@ impl Verb {
             "patch" => Some(Verb::Patch),
             "bench" => Some(Verb::Bench),
             "assemble" => Some(Verb::Assemble),
+            "compile" => Some(Verb::Compile),
             "picture" => Some(Verb::Picture),
             "explain" => Some(Verb::Explain),
             "rewind" => Some(Verb::Rewind),
@@ -111,6 +115,7 @@ impl Verb {
             Verb::Patch => PATCH.as_slice(),
             Verb::Bench => BENCH.as_slice(),
             Verb::Assemble => ASSEMBLE.as_slice(),
+            Verb::Compile => COMPILE.as_slice(),
             Verb::Picture => PICTURE.as_slice(),
             Verb::Explain => EXPLAIN.as_slice(),
             Verb::Rewind => REWIND.as_slice(),
