@@ -1,8 +1,7 @@
 -- Answers to lines.
-use Rattle.std.proofs.Common.{◌≡◌, ℕ, suc, ◌+◌, ◌-◌, ◌<◌, ◌≤◌, inl, inr, Some, Result, Ok, Err, List, [], ◌∷◌, ◌++◌, length, drop, get_or, slice_get, arith, refl, sym, ap, subst, ◌∙◌, append_assoc, append-nil, length-append, position, take, unwrap_or, ◌==◌}
+use Rattle.std.proofs.Common.{◌≡◌, ℕ, suc, ◌+◌, ◌-◌, ◌≤◌, inl, inr, Some, Result, Ok, Err, List, [], ◌∷◌, ◌++◌, length, drop, get_or, slice_get, arith, refl, sym, ap, subst, ◌∙◌, append_assoc, append-nil, length-append}
 use Rattle.fuun_base.specs.declared.letters.Base.{Base}
-use Rattle.fuun_base.specs.RnaFile.{lines}
-use Rattle.fuun_base.proofs.RnaLines.{first_len, lines_first}
+use Rattle.fuun_base.specs.Lines.{lines}
 use Rattle.assembler.specs.Lines.{IsTaken, IsRefusal}
 use Rattle.dna_reader.specs.Codes.{pair_code, IsReadable}
 use Rattle.dna_reader.proofs.CodeLemmas.{pair_code_is_read}
@@ -196,44 +195,40 @@ pub none_so_far : (text : List ℕ) → IsSoFar text text 1 []
 none_so_far text = record { before = []; pairs = []; whole = refl; taken = tt; number_is = refl; code_is = refl }
 
 -- the next line and those behind it
-next_line : (text rest : List ℕ) (number len : ℕ) (code : List Base) → (so_far : IsSoFar text rest number code) → 0 < length rest → len ≡ unwrap_or (position (λ byte. byte == 10) rest) (length rest)
-    → lines text ≡ so_far.before ++ take len rest ∷ lines (drop (len + 1) rest)
-next_line text rest number len code so_far some end =
-    let first : lines rest ≡ take len rest ∷ lines (drop (len + 1) rest) = rw (first_len rest len end) (lines_first rest some) in
-    so_far.whole ∙ ap (λ l. so_far.before ++ l) first
+next_line : (text rest line more : List ℕ) (number : ℕ) (code : List Base) → (so_far : IsSoFar text rest number code) → lines rest ≡ line ∷ lines more → lines text ≡ so_far.before ++ line ∷ lines more
+next_line text rest line more number code so_far first = so_far.whole ∙ ap (λ l. so_far.before ++ l) first
 
-pub so_far_more : (text rest : List ℕ) (number len : ℕ) (code next : List Base) → IsSoFar text rest number code → 0 < length rest → len ≡ unwrap_or (position (λ byte. byte == 10) rest) (length rest)
-    → IsTaken (take len rest) code next → IsSoFar text (drop (len + 1) rest) (number + 1) next
-so_far_more text rest number len code next so_far some end is =
-    let line : List ℕ = take len rest in
+pub so_far_more : (text rest line more : List ℕ) (number : ℕ) (code next : List Base) → IsSoFar text rest number code → lines rest ≡ line ∷ lines more
+    → IsTaken line code next → IsSoFar text more (number + 1) next
+so_far_more text rest line more number code next so_far first is =
     let pair : Pair = (is.pattern, is.template) in
     record {
       before = so_far.before ++ line ∷ [];
       pairs = so_far.pairs ++ pair ∷ [];
-      whole = next_line text rest number len code so_far some end ∙ sym (append_assoc so_far.before (line ∷ []) (lines (drop (len + 1) rest)));
+      whole = next_line text rest line more number code so_far first ∙ sym (append_assoc so_far.before (line ∷ []) (lines more));
       taken = texts_more so_far.before so_far.pairs line pair so_far.taken is.pair is.readable;
       number_is = let n = so_far.number_is in omega (arith, length-append so_far.before (line ∷ []));
       code_is = is.added ∙ ap (λ c. c ++ pair_code is.pattern is.template) so_far.code_is ∙ sym (code_more so_far.pairs pair);
     }
 
-refused_here : (Why : List ℕ → Type 0) (text rest : List ℕ) (number len at : ℕ) (code : List Base) → IsSoFar text rest number code → 0 < length rest → len ≡ unwrap_or (position (λ byte. byte == 10) rest) (length rest)
-    → at ≡ number → Why (take len rest) → IsRefusedAt Why (lines text) at
-refused_here Why text rest number len at code so_far some end same why = record {
+refused_here : (Why : List ℕ → Type 0) (text rest line more : List ℕ) (number at : ℕ) (code : List Base) → IsSoFar text rest number code → lines rest ≡ line ∷ lines more
+    → at ≡ number → Why line → IsRefusedAt Why (lines text) at
+refused_here Why text rest line more number at code so_far first same why = record {
   before = so_far.before;
-  line = take len rest;
-  behind = lines (drop (len + 1) rest);
-  whole = next_line text rest number len code so_far some end;
+  line = line;
+  behind = lines more;
+  whole = next_line text rest line more number code so_far first;
   number_is = same ∙ so_far.number_is;
   pairs = so_far.pairs;
   taken = so_far.taken;
   refused = why;
 }
 
-pub refused_is_answer : (text rest : List ℕ) (number len : ℕ) (code : List Base) (error : AsmError) → IsSoFar text rest number code → 0 < length rest → len ≡ unwrap_or (position (λ byte. byte == 10) rest) (length rest)
-    → IsRefusal (take len rest) number error → (error ≡ NoMemory → ⊥) → IsAssembled text (Err error)
-refused_is_answer text rest number len code (BadText at) so_far some end is other = refused_here IsNoPair text rest number len at code so_far some end is.0 is.1
-refused_is_answer text rest number len code (Unreadable at) so_far some end is other = refused_here IsUnreadable text rest number len at code so_far some end is.0 is.1
-refused_is_answer text rest number len code NoMemory so_far some end is other = absurd (other refl)
+pub refused_is_answer : (text rest line more : List ℕ) (number : ℕ) (code : List Base) (error : AsmError) → IsSoFar text rest number code → lines rest ≡ line ∷ lines more
+    → IsRefusal line number error → (error ≡ NoMemory → ⊥) → IsAssembled text (Err error)
+refused_is_answer text rest line more number code (BadText at) so_far first is other = refused_here IsNoPair text rest line more number at code so_far first is.0 is.1
+refused_is_answer text rest line more number code (Unreadable at) so_far first is other = refused_here IsUnreadable text rest line more number at code so_far first is.0 is.1
+refused_is_answer text rest line more number code NoMemory so_far first is other = absurd (other refl)
 
 nothing_left : (rest : List ℕ) → length rest ≤ 0 → rest ≡ []
 nothing_left [] few = refl

@@ -8,7 +8,7 @@ use Rattle.std.specs.Str.Parse.{AllDigits}
 use Rattle.fuun_base.specs.declared.letters.Base.{Base}
 use Rattle.fuun_base.specs.declared.letters.Base.TheVariants.{I, C, F, P}
 use Rattle.fuun_base.specs.Letter.{letter_of}
-use Rattle.fuun_base.specs.RnaFile.{lines, before_lines}
+use Rattle.fuun_base.specs.Lines.{lines, before_lines}
 use Rattle.dna_items.specs.declared.items.PatItem.{PatItem}
 use Rattle.dna_items.specs.declared.items.PatItem.TheVariants.{Base as Literal, Skip, Search, GroupStart, GroupStop}
 use Rattle.dna_items.specs.declared.items.TplItem.{TplItem}

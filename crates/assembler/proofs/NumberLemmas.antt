@@ -5,7 +5,8 @@ use Rattle.std.proofs.lemmas.Bool.{cases_lt, cases_Bool, ltb-true, lt-ltb, le-le
 use Rattle.std.proofs.lemmas.Fmt.{decimal_step, decimal_digit}
 use Rattle.std.proofs.lemmas.Option.{none-some, same_Some, cond_some}
 use Rattle.std.proofs.Math.Seq.{drop-append_seam}
-use Rattle.assembler.specs.Ahead.{is_digit, with_digit, digits_ahead, number_ahead, stands, ended_ahead}
+use Rattle.fuun_base.specs.Decimals.{is_digit}
+use Rattle.assembler.specs.Ahead.{with_digit, digits_ahead, number_ahead, stands, ended_ahead}
 use Rattle.assembler.proofs.Readers.{chained, Fronts, fronts, fronts_both, NoDigit}
 
 -- digits

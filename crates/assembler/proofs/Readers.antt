@@ -3,7 +3,8 @@ use Rattle.std.proofs.Common.{◌≡◌, ℕ, zero, suc, ◌+◌, ◌<◌, ◌�
 use Rattle.std.specs.List.{AllByRecursion}
 use Rattle.std.proofs.lemmas.Option.{none-some, same_Some}
 use Rattle.std.proofs.Math.Seq.{drop-append_seam}
-use Rattle.assembler.specs.Ahead.{is_digit, Runs}
+use Rattle.fuun_base.specs.Decimals.{is_digit}
+use Rattle.assembler.specs.Ahead.{Runs}
 
 -- options
 

@@ -3,7 +3,8 @@ use Rattle.std.proofs.Common.{◌≡◌, ℕ, ◌+◌, ◌<◌, ◌≤◌, ◌==
 use Rattle.std.proofs.lemmas.List.{drop_all}
 use Rattle.fuun_base.specs.declared.letters.Base.{Base}
 use Rattle.fuun_base.specs.Letter.{base_of}
-use Rattle.assembler.specs.Ahead.{digits_ahead, is_digit, letters_ahead, with_digit}
+use Rattle.fuun_base.specs.Decimals.{is_digit}
+use Rattle.assembler.specs.Ahead.{digits_ahead, letters_ahead, with_digit}
 use Rattle.assembler.proofs.NumberLemmas.{digits_on, digits_stop}
 use Rattle.assembler.proofs.Readers.{NoDigit}
 

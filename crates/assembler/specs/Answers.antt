@@ -1,7 +1,7 @@
 -- What is assembled from lines, or which of them is the first refused.
 use Rattle.std.specs.Prelude.{◌≡◌, ℕ, ◌+◌, List, [], ◌∷◌, ◌++◌, Result, Ok, Err, flat_map, length}
 use Rattle.fuun_base.specs.declared.letters.Base.{Base}
-use Rattle.fuun_base.specs.RnaFile.{lines}
+use Rattle.fuun_base.specs.Lines.{lines}
 use Rattle.dna_items.specs.declared.items.PatItem.{PatItem}
 use Rattle.dna_items.specs.declared.items.TplItem.{TplItem}
 use Rattle.dna_reader.specs.CodeLaws.{ReadsPair}

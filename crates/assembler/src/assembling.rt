@@ -1,12 +1,11 @@
-ghost use Rattle.std.specs.Prelude.{◌≡◌, ◌≢◌, ℕ, ◌^◌, ◌≤◌, ◌==◌, Err, List, Ok, [], length, position, unwrap_or, IfErr, IfOk, OnOk};
-ghost use Rattle.fuun_base.specs.RnaFile.{lines};
+ghost use Rattle.std.specs.Prelude.{◌≡◌, ◌≢◌, ℕ, ◌^◌, ◌≤◌, Err, List, Ok, [], length, IfErr, IfOk, OnOk};
+ghost use Rattle.fuun_base.specs.Lines.{lines};
 ghost use Rattle.assembler.specs.Answers.{Pair, AreTexts, ReadsPairs, IsAssembled};
 ghost use Rattle.assembler.specs.Laws.{IsReadOfNone};
 ghost use Rattle.assembler.specs.Lines.{IsRefusal, IsTaken};
 
-use crate::numbers::rest_from;
 use crate::pairs::read_pair;
-use fuun_base::{Base, BaseList, NoMemory};
+use fuun_base::{Base, BaseList, NoMemory, first_line};
 use item_codes::{is_readable, put_pair};
 use std::alloc::Global;
 
@@ -34,32 +33,17 @@ pub fn assemble(alloc: Global, text: &[u8]) -> Result<BaseList, AsmError>
     let mut rest = text;
     let mut number = 1;
     'lines: while rest.len() > 0 {
-        let len = line_len(rest);
-        if let Err(error) = assemble_line(alloc, &rest[..len], number, &mut bases) {
+        let (line, more) = first_line(rest);
+        if let Err(error) = assemble_line(alloc, line, number, &mut bases) {
             return Err(error);
         }
-        rest = rest_from(rest, len + 1);
+        rest = more;
         number += 1;
     }
     match BaseList::from_vec(alloc, bases) {
         Ok(code) => Ok(code),
         Err(NoMemory) => Err(AsmError::NoMemory),
     }
-}
-
-// How many bytes the first line has.
-fn line_len(bytes: &[u8]) -> usize
-    ensures value { result ≡ unwrap_or (position (λ byte. byte == 10) bytes.now) (length bytes.now) }
-    ensures within { result ≤ length bytes.now }
-{
-    line_feed(bytes).unwrap_or(bytes.len())
-}
-
-// Where the first line feed stands.
-fn line_feed(bytes: &[u8]) -> Option<usize>
-    ensures { result ≡ position (λ byte. byte == 10) bytes.now }
-{
-    bytes.iter().position(|byte| *byte == b'\n')
 }
 
 // Appends the code of the line of this number.

@@ -1,8 +1,9 @@
 //! Numbers in a text.
 ghost use Rattle.std.specs.Prelude.{◌≡◌, ◌+◌, ◌≤◌, drop, length, IfSome};
-ghost use Rattle.assembler.specs.Ahead.{digits_ahead, ended_ahead, is_digit, number_ahead, stands, with_digit};
+ghost use Rattle.assembler.specs.Ahead.{digits_ahead, ended_ahead, number_ahead, stands, with_digit};
 
 use dna_items::BIG;
+use fuun_base::is_digit;
 
 /// The number below 2^63 that stands at the front, without leading zeros, and how many bytes it takes.
 #[tactic(auto, unfolding(crate::specs::Ahead::number_ahead))]
@@ -34,12 +35,6 @@ fn digits(first: u64, rest: &[u8]) -> Option<(u64, usize)>
         n = with_digit(n, *byte)?;
     }
     Some((n, rest.len() + 1))
-}
-
-fn is_digit(byte: u8) -> bool
-    ensures { result ≡ is_digit byte }
-{
-    b'0' <= byte && byte <= b'9'
 }
 
 // A number with a digit behind it: None from 2^63 on.

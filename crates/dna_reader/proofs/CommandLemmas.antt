@@ -7,7 +7,8 @@ use Rattle.std.proofs.lemmas.List.{length-map}
 use Rattle.fuun_base.specs.declared.letters.Base.{Base}
 use Rattle.fuun_base.specs.declared.letters.Base.TheVariants.{I, C, F, P}
 use Rattle.fuun_base.specs.Letter.{base_of, is_letter, letter_of}
-use Rattle.fuun_base.specs.RnaFile.{before_lines, command_of, commands, is_command, lines}
+use Rattle.fuun_base.specs.Lines.{before_lines, lines}
+use Rattle.fuun_base.specs.RnaFile.{command_of, commands, is_command}
 use Rattle.fuun_base.proofs.RnaLines.{command_of_letters}
 use Rattle.dna_items.specs.declared.items.PatItem.TheVariants.{Skip}
 use Rattle.dna_items.specs.declared.items.TplItem.{TplItem}

@@ -8,7 +8,6 @@ mod explaining;
 mod fitting;
 mod fronts;
 pub mod laws;
-mod marks;
 mod matching;
 mod mixed;
 mod open_places;

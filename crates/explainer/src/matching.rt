@@ -2,12 +2,11 @@ ghost use Rattle.std.specs.Prelude.{IfOk};
 ghost use Rattle.dna_items.specs.Balance.{IsBalanced};
 ghost use Rattle.explainer.specs.Passing.{MatchesSo};
 
-use crate::marks::Marks;
 use crate::passing::{Passing, pass};
 use cell_rope::CellRope;
 use dna_items::PatItem;
 use fuun_base::NoMemory;
-use matcher::GroupList;
+use matcher::{GroupList, Marks};
 use std::alloc::Global;
 
 /// How the items of a pattern go through cells.
@@ -42,6 +41,6 @@ pub(crate) fn match_cells(
     }
     Ok(CellMatch::Matched {
         stop: at,
-        groups: GroupList::from_vec(marks.ended),
+        groups: GroupList::from_vec(marks.ended.into_vec()?),
     })
 }

@@ -1,4 +1,4 @@
-ghost use Rattle.std.specs.Prelude.{◌≡◌, ◌≤◌, ◌++◌, codes, length, map, min, take};
+ghost use Rattle.std.specs.Prelude.{◌≡◌, ◌++◌, codes, map};
 ghost use Rattle.fuun_base.specs.Letter.{letter_of};
 ghost use Rattle.std.specs.List.{flat_map};
 ghost use Rattle.fuun_io.specs.Counts.{HasCause};
@@ -10,10 +10,8 @@ use crate::Explained;
 use fuun_base::{Base, Command};
 use fuun_io::{Sink, WriteFault, put_all, put_pieces};
 use itoa::Buffer;
+use letters_out::put_bases;
 use sym_strand::Seg;
-
-/// How many letters are written at once.
-const LETTERS: usize = 4096;
 
 /// Writes the line of the end, a line for each command of RNA, and a line for each segment. After an error a front of
 /// the lines is written.
@@ -110,42 +108,6 @@ fn put_ended<S: Sink>(bases: &[Base], sink: &mut S) -> Result<(), WriteFault>
     ensures puts { Puts result (S.bytes sink.old) (S.bytes sink.new) (map letter_of bases.now ++ codes "\n") }
     ensures cause { HasCause (S.faults sink.old) (S.faults sink.new) result }
 {
-    put_letters(bases, sink)?;
+    put_bases(bases, sink)?;
     put_all(sink, b"\n")
-}
-
-fn put_letters<S: Sink>(bases: &[Base], sink: &mut S) -> Result<(), WriteFault>
-    ensures puts { Puts result (S.bytes sink.old) (S.bytes sink.new) (map letter_of bases.now) }
-    ensures cause { HasCause (S.faults sink.old) (S.faults sink.new) result }
-{
-    let mut buffer = [0; LETTERS];
-    put_by_buffer(bases, &mut buffer, sink)
-}
-
-/// Writes the letters of bases, as many at a time as the buffer holds.
-fn put_by_buffer<S: Sink>(bases: &[Base], buffer: &mut [u8], sink: &mut S) -> Result<(), WriteFault>
-    requires { 1 ≤ length buffer.old }
-    ensures puts { Puts result (S.bytes sink.old) (S.bytes sink.new) (map letter_of bases.now) }
-    ensures cause { HasCause (S.faults sink.old) (S.faults sink.new) result }
-{
-    let mut place = 0;
-    while place < bases.len() {
-        let count = spell(&bases[place..], buffer);
-        put_all(sink, &buffer[..count])?;
-        place += count;
-    }
-    Ok(())
-}
-
-/// Writes the letters of bases to the front of a buffer, as many as fit, and answers their number.
-fn spell(bases: &[Base], buffer: &mut [u8]) -> usize
-    ensures number { result ≡ min (length buffer.old) (length bases.now) }
-    ensures letters { take result buffer.new ≡ take result (map letter_of bases.now) }
-    ensures same { length buffer.new ≡ length buffer.old }
-{
-    let count = buffer.len().min(bases.len());
-    for (index, base) in bases[..count].iter().enumerate() {
-        buffer[index] = base.letter();
-    }
-    count
 }

@@ -1,5 +1,7 @@
 pub mod AsnatLemmas
 pub mod Counting
+pub mod DecimalLemmas
+pub mod LineLemmas
 pub mod OccurrenceLemmas
 pub mod QuoteLemmas
 pub mod Ranges

@@ -1,79 +1,15 @@
--- What an RNA file's bytes say, line by line, and a line's bytes, byte by byte.
-use Rattle.std.proofs.Common.{◌≡◌, ℕ, suc, ◌+◌, ◌<◌, ◌≤◌, Bool, true, false, List, [], ◌∷◌, ◌++◌, Option, Some, None, length, take, drop, set, get_or, arith, refl, sym, ap, ◌∙◌, add-one, append_assoc, append-nil, length-append, drop-cons, map}
-use Rattle.std.specs.Prelude.{MatchOption, ◌==◌, ◌&&◌, nat_lt, not, position, unwrap_or}
-use Rattle.std.specs.List.{list_all, position_from, position_or_len}
+-- What the bytes of a line of an RNA file say, byte by byte.
+use Rattle.std.proofs.Common.{◌≡◌, ℕ, ◌+◌, ◌<◌, ◌≤◌, Bool, true, false, List, [], ◌∷◌, ◌++◌, Option, Some, None, length, take, drop, set, get_or, arith, refl, sym, ap, ◌∙◌, add-one, append_assoc, append-nil, length-append, drop-cons}
+use Rattle.std.specs.Prelude.{MatchOption, ◌&&◌}
+use Rattle.std.specs.List.{list_all}
 use Rattle.std.proofs.Math.Seq.{take-append_seam}
-use Rattle.std.proofs.lemmas.Bool.{lt-leb, le-leb, ltb-false}
-use Rattle.std.proofs.lemmas.List.Sums.{prefix_len-le-length, AllPass-from_list_all, list_all-from_AllPass}
+use Rattle.std.proofs.lemmas.Bool.{lt-leb, le-leb}
+use Rattle.std.proofs.lemmas.List.Sums.{AllPass-from_list_all, list_all-from_AllPass}
 use Rattle.std.proofs.lemmas.List.{drop_all, take_more_set}
 use Rattle.fuun_base.specs.declared.letters.Base.{Base}
 use Rattle.fuun_base.specs.Letter.{base_of, is_letter, is_blank}
 use Rattle.fuun_base.proofs.Reading.{length-bases_le}
-use Rattle.fuun_base.specs.RnaFile.{before_lines, command_of, commands, first_bad, is_allowed, is_command, lines}
-
--- a byte is a line feed
-abbrev is_feed : ℕ → Bool
-is_feed byte = byte == 10
-
--- the first line ends at the first line feed
-first_by : (byte : ℕ) (bytes : List ℕ) (feed : Bool) → is_feed byte ≡ feed → (0 < length bytes → lines bytes ≡ take (position_or_len is_feed bytes) bytes ∷ lines (drop (position_or_len is_feed bytes + 1) bytes)) → lines (byte ∷ bytes) ≡ take (position_or_len is_feed (byte ∷ bytes)) (byte ∷ bytes) ∷ lines (drop (position_or_len is_feed (byte ∷ bytes) + 1) (byte ∷ bytes))
-first_by byte bytes true is later = rw is refl
-first_by byte [] false is later = rw is refl
-first_by byte (b ∷ bytes) false is later =
-    let k = position_or_len is_feed (b ∷ bytes) in
-    let one : 1 + k ≡ suc k = omega arith in
-    let two : 1 + k + 1 ≡ suc (k + 1) = omega arith in
-    rw is (rw (two, one) (ap (before_lines byte) (later (omega arith))))
-
-pub lines_first : (bytes : List ℕ) → 0 < length bytes → lines bytes ≡ take (position_or_len is_feed bytes) bytes ∷ lines (drop (position_or_len is_feed bytes + 1) bytes)
-lines_first [] some = absurd (omega arith)
-lines_first (byte ∷ bytes) some = first_by byte bytes (is_feed byte) refl (lines_first bytes)
-
-len_by : (bytes : List ℕ) (found : Bool) → nat_lt (position_or_len is_feed bytes) (length bytes) ≡ found → position_or_len is_feed bytes ≤ length bytes → unwrap_or (position is_feed bytes) (length bytes) ≡ position_or_len is_feed bytes
-len_by bytes true is within = rw is refl
-len_by bytes false is within =
-    let past : length bytes ≤ position_or_len is_feed bytes = ltb-false (position_or_len is_feed bytes) (length bytes) is in
-    rw is (omega arith)
-
--- how long the first line is
-pub first_len : (bytes : List ℕ) (end : ℕ) → end ≡ unwrap_or (position is_feed bytes) (length bytes) → end ≡ position_or_len is_feed bytes
-first_len bytes end is = is ∙ len_by bytes (nat_lt (position_or_len is_feed bytes) (length bytes)) refl (prefix_len-le-length (λ x. not (is_feed x)) bytes)
-
--- the first line of what is left, and what is left after it
-split_line : (rest : List ℕ) (end : ℕ) → 0 < length rest → end ≡ position_or_len is_feed rest → lines rest ≡ take end rest ∷ lines (drop (end + 1) rest)
-split_line rest end some is = rw is (lines_first rest some)
-
--- one command more
-pub read_more : (bytes rest : List ℕ) (old now : List (List Base)) (command : List Base) (end : ℕ) → 0 < length rest → end ≡ position_or_len is_feed rest → command ≡ command_of (take end rest) → now ≡ old ++ command ∷ [] → old ++ commands rest ≡ commands bytes → now ++ commands (drop (end + 1) rest) ≡ commands bytes
-read_more bytes rest old now command end some is command_is now_is so_far =
-    let next = drop (end + 1) rest in
-    let all : commands rest ≡ command ∷ commands next = ap (map command_of) (split_line rest end some is) ∙ ap (λ c. c ∷ commands next) (sym command_is) in
-    ap (λ k. k ++ commands next) now_is ∙ append_assoc old (command ∷ []) (commands next) ∙ ap (λ k. old ++ k) (sym all) ∙ so_far
-
--- a line that is a command is passed
-pub judged_more : (bytes rest : List ℕ) (line end : ℕ) → 0 < length rest → end ≡ position_or_len is_feed rest → is_command (take end rest) ≡ true → position_from (λ l. not (is_command l)) line (lines rest) ≡ first_bad bytes → position_from (λ l. not (is_command l)) (line + 1) (lines (drop (end + 1) rest)) ≡ first_bad bytes
-judged_more bytes rest line end some is good so_far =
-    let split = split_line rest end some is in
-    let here = rw split at so_far in
-    rw good at here
-
--- a line that is none is the first
-pub judged_bad : (bytes rest : List ℕ) (line end : ℕ) → 0 < length rest → end ≡ position_or_len is_feed rest → is_command (take end rest) ≡ false → position_from (λ l. not (is_command l)) line (lines rest) ≡ first_bad bytes → first_bad bytes ≡ Some line
-judged_bad bytes rest line end some is bad so_far =
-    let split = split_line rest end some is in
-    let here = rw split at so_far in
-    sym (rw bad at here)
-
-nil_of_none : (rest : List ℕ) → length rest ≤ 0 → rest ≡ []
-nil_of_none [] none = refl
-nil_of_none (byte ∷ rest) none = absurd (omega arith)
-
--- no line is left
-pub read_all : (bytes rest : List ℕ) (list : List (List Base)) → length rest ≤ 0 → list ++ commands rest ≡ commands bytes → list ≡ commands bytes
-read_all bytes rest list none so_far = sym (append-nil list) ∙ rw (nil_of_none rest none) at so_far
-
-pub judged_all : (bytes rest : List ℕ) (line : ℕ) → length rest ≤ 0 → position_from (λ l. not (is_command l)) line (lines rest) ≡ first_bad bytes → first_bad bytes ≡ None
-judged_all bytes rest line none so_far = sym (rw (nil_of_none rest none) at so_far)
+use Rattle.fuun_base.specs.RnaFile.{command_of, is_allowed, is_command}
 
 next_byte : (line : List ℕ) (i : ℕ) → i < length line → drop i line ≡ get_or line i 0 ∷ drop (i + 1) line
 next_byte line i within = rw (add-one, drop-cons line i 0 within) refl

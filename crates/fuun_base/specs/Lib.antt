@@ -8,6 +8,8 @@ pub mod Tally
 pub mod TallyLaws
 pub mod Ticks
 pub mod DnaFile
+pub mod Lines
 pub mod RnaFile
 pub mod Command
 pub mod Padding
+pub mod Decimals

@@ -1,18 +1,9 @@
 -- What an RNA file stands for.
-use Rattle.std.specs.Prelude.{ℕ, ◌==◌, ◌&&◌, ◌||◌, if◌then◌else◌, Bool, List, [], ◌∷◌, Option, length, map, not, nat_le}
+use Rattle.std.specs.Prelude.{ℕ, ◌&&◌, ◌||◌, Bool, List, Option, length, map, not, nat_le}
 use Rattle.std.specs.List.{list_all, filter_map, position_from}
 use Rattle.fuun_base.specs.declared.letters.Base.{Base}
 use Rattle.fuun_base.specs.Letter.{base_of, is_letter, is_blank}
-
--- a byte before the lines that follow it
-abbrev pub before_lines : ℕ → List (List ℕ) → List (List ℕ)
-before_lines byte [] = (byte ∷ []) ∷ []
-before_lines byte (line ∷ more) = (byte ∷ line) ∷ more
-
--- the lines of a file: a line feed ends each, and bytes after the last line feed are a line too
-abbrev pub lines : List ℕ → List (List ℕ)
-lines [] = []
-lines (byte ∷ bytes) = if byte == 10 then [] ∷ lines bytes else before_lines byte (lines bytes)
+use Rattle.fuun_base.specs.Lines.{lines}
 
 -- the command of a line: the bases of its letters, in order
 abbrev pub command_of : List ℕ → List Base

@@ -1,4 +1,4 @@
-ghost use Rattle.std.specs.Prelude.{◌≡◌, ℕ, ◌+◌, ◌≤◌, ◌==◌, false, true, drop, length, position, unwrap_or, IfOk, IsTrue, MatchOption, OnOk};
+ghost use Rattle.std.specs.Prelude.{◌≡◌, ℕ, ◌≤◌, false, true, length, IfOk, IsTrue, MatchOption, OnOk};
 ghost use Rattle.std.specs.List.{list_all};
 ghost use Rattle.fuun_base.specs.declared.rna_file.RnaError.TheVariants.{NoMemory as OutOfMemory};
 ghost use Rattle.fuun_base.specs.Letter.{is_letter};
@@ -6,6 +6,7 @@ ghost use Rattle.fuun_base.specs.RnaFile.{command_of, commands, first_bad, is_co
 
 use crate::dna_file::{are_letters, fill_letters};
 use crate::letters::is_blank;
+use crate::lines::first_line;
 use crate::{Base, Command, CommandList, NoMemory};
 use std::alloc::Global;
 
@@ -36,38 +37,15 @@ pub fn read_rna(alloc: Global, bytes: &[u8]) -> Result<CommandList, RnaError>
     let mut rest = bytes;
     let mut line = 1;
     while rest.len() > 0 {
-        let len = line_len(rest);
-        let Some(command) = read_line(&rest[..len]) else {
+        let (text, more) = first_line(rest);
+        let Some(command) = read_line(text) else {
             return Err(RnaError::BadRna { line });
         };
         list.push(command)?;
-        rest = after_line(rest, len);
+        rest = more;
         line += 1;
     }
     Ok(list)
-}
-
-// Where the first line feed stands.
-fn line_feed(bytes: &[u8]) -> Option<usize>
-    ensures { result ≡ position (λ byte. byte == 10) bytes.now }
-{
-    bytes.iter().position(|byte| *byte == b'\n')
-}
-
-// How many bytes the first line has.
-fn line_len(bytes: &[u8]) -> usize
-    ensures value { result ≡ unwrap_or (position (λ byte. byte == 10) bytes.now) (length bytes.now) }
-    ensures within { result ≤ length bytes.now }
-{
-    line_feed(bytes).unwrap_or(bytes.len())
-}
-
-// What stands behind a first line of this length.
-fn after_line(bytes: &[u8], len: usize) -> &[u8]
-    requires { len ≤ length bytes.now }
-    ensures { result.now ≡ drop (len + 1) bytes.now }
-{
-    &bytes[bytes.len().min(len + 1)..]
 }
 
 // The command of a line.

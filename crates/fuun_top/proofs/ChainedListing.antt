@@ -6,7 +6,7 @@ use Rattle.std.proofs.lemmas.Bool.{cases_lt, ne_eqb}
 use Rattle.std.proofs.lemmas.Fmt.{decimal_is_IsNumeral}
 use Rattle.std.proofs.lemmas.Str.Parse.{digit_from_value}
 use Rattle.fuun_base.specs.declared.letters.Base.{Base}
-use Rattle.fuun_base.specs.RnaFile.{lines}
+use Rattle.fuun_base.specs.Lines.{lines}
 use Rattle.listing.specs.Lists.{IsListing, ListsFrom, pair_line}
 use Rattle.listing.specs.Texts.{number_text, pair_text}
 use Rattle.listing.proofs.ListLemmas.{one_listing, one_pair, pair_or_none}

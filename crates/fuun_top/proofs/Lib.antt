@@ -1,4 +1,3 @@
-pub mod LetterLemmas
 pub mod LoadLemmas
 pub mod MarkLemmas
 pub mod DrawingLemmas

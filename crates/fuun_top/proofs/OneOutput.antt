@@ -3,7 +3,7 @@ use Rattle.std.proofs.Common.{◌≡◌, false, ℕ, Option, Some, None, Result,
 use Rattle.std.specs.List.{AllByRecursion}
 use Rattle.std.specs.Option.{option_map}
 use Rattle.fuun_base.specs.declared.letters.Base.{Base}
-use Rattle.fuun_base.specs.RnaFile.{lines}
+use Rattle.fuun_base.specs.Lines.{lines}
 use Rattle.assembler.proofs.AnswerLemmas.{has_answer, answer_is_one}
 use Rattle.picture_in.specs.Pixmap.{picture_of}
 use Rattle.rna_code.specs.declared.profile.Profile.{Profile}

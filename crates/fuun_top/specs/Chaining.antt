@@ -1,6 +1,6 @@
 -- What verbs write, taken as the files of others.
 use Rattle.std.specs.Prelude.{◌≡◌, ◌⊎◌, ℕ, ◌+◌, ◌≤◌, ◌==◌, if◌then◌else◌, Some, None, List, [], ◌∷◌, ◌++◌, codes, flat_map, length}
-use Rattle.fuun_base.specs.RnaFile.{lines}
+use Rattle.fuun_base.specs.Lines.{lines}
 use Rattle.fuun_top.specs.Output.{Output, IsOutput}
 use Rattle.fuun_top.specs.Reading.{Files, most_bytes}
 use Rattle.fuun_top.specs.declared.status.Status.{Status}

@@ -2,7 +2,7 @@
 use Rattle.std.specs.Prelude.{◌≡◌, ◌⊎◌, ℕ, ◌+◌, ◌≤◌, false, Some, None, Ok, List, [], ◌∷◌, ◌++◌, flat_map, length}
 use Rattle.std.specs.List.{AllByRecursion}
 use Rattle.fuun_base.specs.declared.letters.Base.{Base}
-use Rattle.fuun_base.specs.RnaFile.{lines}
+use Rattle.fuun_base.specs.Lines.{lines}
 use Rattle.rna_code.specs.declared.profile.Profile.TheVariants.{Plain}
 use Rattle.ppm_out.specs.Ppm.{header}
 use Rattle.assembler.specs.Answers.{Pair, AreTexts, ReadsPairs, pairs_code}

@@ -1,13 +1,13 @@
 //! The values of options.
 ghost use Rattle.std.specs.Prelude.{◌≡◌, ◌≤◌, ◌^◌, IfOk, IfSome, MatchResult, option_map};
-ghost use Rattle.std.specs.List.{list_all};
 ghost use Rattle.clap.specs.Walk.{first_of};
 ghost use Rattle.fuun_words.specs.Commands.{found_in};
-ghost use Rattle.fuun_words.specs.Numbers.{is_digit, is_number, number};
+ghost use Rattle.fuun_words.specs.Numbers.{number};
 ghost use Rattle.fuun_words.specs.Requests.{budget_of, limit_of, number_of, profile_of, Reads};
 
 use crate::{Name, WordsError};
 use clap::ArgMatches;
+use fuun_base::decimal;
 use rna_code::Profile;
 use std::alloc::Global;
 
@@ -115,23 +115,6 @@ fn read_number(text: &str, least: u64, most: u64) -> Option<u64>
     ensures read { result ≡ number least most text.now }
     ensures range { IfSome result (λ n. (least ≤ n) × (n ≤ most)) }
 {
-    if !is_decimal(text) {
-        return None;
-    }
-    match text.parse::<u64>() {
-        Ok(value) if least <= value && value <= most => Some(value),
-        _ => None,
-    }
-}
-
-fn is_decimal(text: &str) -> bool
-    ensures { result ≡ is_number text.now }
-{
-    text.len() > 0 && has_digits_alone(text)
-}
-
-fn has_digits_alone(text: &str) -> bool
-    ensures { result ≡ list_all is_digit text.now }
-{
-    text.as_bytes().iter().all(|byte| byte.is_ascii_digit())
+    let value = decimal(text.as_bytes(), most)?;
+    if least <= value { Some(value) } else { None }
 }

@@ -1,9 +1,9 @@
 -- A listing, pair by pair.
-use Rattle.std.proofs.Common.{◌≡◌, ℕ, zero, suc, ◌+◌, ◌-◌, ◌<◌, ◌≤◌, ◌⊎◌, inl, inr, List, [], ◌∷◌, ◌++◌, length, drop, codes, Option, Result, Ok, Err, arith, refl, sym, ap, subst, ◌∙◌, append_assoc, append-nil, length-drop}
+use Rattle.std.proofs.Common.{◌≡◌, ℕ, zero, suc, ◌+◌, ◌-◌, ◌<◌, ◌≤◌, inl, inr, List, [], ◌++◌, length, drop, codes, Option, Result, Ok, arith, refl, sym, ap, subst, ◌∙◌, append_assoc, append-nil, length-drop}
 use Rattle.std.proofs.lemmas.Result.{MatchResult-from_err}
 use Rattle.std.specs.Result.{IsErr}
 use Rattle.fuun_base.specs.declared.letters.Base.{Base}
-use Rattle.fuun_io.specs.Written.{appended, Puts, PutsFront}
+use Rattle.fuun_io.specs.Written.{appended, PutsFront}
 use Rattle.fuun_io.proofs.WrittenLemmas.{appended-appended, appended-nil, PutsFront-behind, PutsFront-longer}
 use Rattle.dna_items.specs.declared.items.PatItem.{PatItem}
 use Rattle.dna_items.specs.declared.items.TplItem.{TplItem}
@@ -13,7 +13,7 @@ use Rattle.dna_reader.proofs.ReadingLemmas.{one_reading, has_reading}
 use Rattle.dna_reader.proofs.TableLemmas.{pattern_fits, template_fits}
 use Rattle.listing.specs.Laws.{HasListing, HasOneListing}
 use Rattle.listing.specs.Lists.{PairStands, NoPairStands, NoPattern, NoTemplate, PairIsHeld, pair_line, last_line, ListsFrom, IsListing, PutsListing}
-use Rattle.listing.specs.Texts.{number_text, pair_text}
+use Rattle.listing.specs.Texts.{number_text}
 use Rattle.listing.proofs.TextLemmas.{held_pair_text}
 
 -- what stands at the front of a DNA is one

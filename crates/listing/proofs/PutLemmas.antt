@@ -1,17 +1,10 @@
 -- Texts that are put part by part.
-use Rattle.std.proofs.Common.{◌≡◌, ℕ, suc, ◌+◌, ◌<◌, List, [], ◌∷◌, ◌++◌, length, get_or, take, drop, flat_map, Option, Result, Ok, Err, refl, sym, ap, subst, ◌∙◌, append-nil, append_assoc, take-append-drop, drop-cons}
-use Rattle.std.proofs.lemmas.List.Concat.{flat_map-cons, flat_map_single}
+pub use Rattle.letters_out.proofs.PieceLemmas.{puts_behind}
+use Rattle.std.proofs.Common.{◌≡◌, ℕ, suc, ◌+◌, ◌<◌, List, [], ◌∷◌, ◌++◌, length, get_or, take, drop, flat_map, Option, Result, sym, ap, subst, ◌∙◌, append-nil, append_assoc, take-append-drop, drop-cons}
+use Rattle.std.proofs.lemmas.List.Concat.{flat_map-cons}
 use Rattle.std.proofs.lemmas.Grind.{flat_map-append, take_at_read}
-use Rattle.fuun_base.specs.declared.letters.Base.{Base}
-use Rattle.fuun_base.specs.Letter.{letter_of}
 use Rattle.fuun_io.specs.Written.{appended, Puts, PutsFront}
 use Rattle.fuun_io.proofs.WrittenLemmas.{appended-appended, PutsFront-behind, PutsFront-longer}
-use Rattle.listing.specs.Texts.{letters_text}
-
--- a second part behind a first that was put whole
-pub puts_behind : {T E : Type 0} → (first second : List ℕ) (old mid new : Option (List ℕ)) (result : Result T E) → mid ≡ appended old first → Puts result mid new second → Puts result old new (first ++ second)
-puts_behind first second old mid new (Ok done) before put = put ∙ ap (λ told. appended told second) before ∙ appended-appended old first second
-puts_behind first second old mid new (Err e) before put = PutsFront-behind old mid new first second before put
 
 -- a text of three parts, of which the first two were put together
 pub puts_in_three : {T E : Type 0} → (first second third : List ℕ) (old mid new : Option (List ℕ)) (result : Result T E) → mid ≡ appended old (first ++ second) → Puts result mid new third → Puts result old new (first ++ (second ++ third))
@@ -48,11 +41,3 @@ items_part_at text xs all k d old mid new same inside before put =
 pub items_part : {A : Type 0} (text : A → List ℕ) (xs all : List A) (k : ℕ) (x : A) (old mid new : Option (List ℕ)) → xs ≡ all → k < length xs → x ≡ get_or xs k x
     → mid ≡ appended old (flat_map text (take k xs)) → PutsFront mid new (text x) → PutsFront old new (flat_map text all)
 items_part text xs all k x old mid new same inside item before put = items_part_at text xs all k x old mid new same inside before (subst (λ y. PutsFront mid new (text y)) item put)
-
--- a letter was not put
-pub letters_part : (bases : List Base) (k : ℕ) (d : Base) (letter : ℕ) (old mid new : Option (List ℕ)) → k < length bases → letter ≡ letter_of (get_or bases k d)
-    → mid ≡ appended old (letters_text (take k bases)) → PutsFront mid new (letter ∷ []) → PutsFront old new (letters_text bases)
-letters_part bases k d letter old mid new inside is before put =
-    let text : Base → List ℕ = λ b. letter_of b ∷ [] in
-    subst (λ l. PutsFront old new l) (flat_map_single letter_of bases)
-    (items_part_at text bases bases k d old mid new refl inside (before ∙ ap (appended old) (sym (flat_map_single letter_of (take k bases)))) (subst (λ n. PutsFront mid new (n ∷ [])) is put))

@@ -1,15 +1,13 @@
 -- Texts of numbers and items that are held.
-use Rattle.std.proofs.Common.{◌≡◌, ℕ, ◌^◌, ◌<◌, ◌≤◌, min, List, [], ◌∷◌, ◌++◌, flat_map, map, codes, decimal, if◌then◌else◌, ◌⊎◌, inl, inr, arith, refl, sym, ap, ◌∙◌}
+use Rattle.std.proofs.Common.{◌≡◌, ℕ, ◌^◌, ◌<◌, ◌≤◌, List, [], ◌∷◌, ◌++◌, codes, decimal, if◌then◌else◌, ◌⊎◌, inl, inr, arith, refl, sym, ap, ◌∙◌}
 use Rattle.std.proofs.lemmas.Bool.{lt-ltb, le-ltb, cases_lt}
-use Rattle.fuun_base.specs.declared.letters.Base.{Base}
-use Rattle.fuun_base.specs.Letter.{letter_of}
 use Rattle.dna_items.specs.declared.items.PatItem.{PatItem}
 use Rattle.dna_items.specs.declared.items.PatItem.TheVariants.{Base as Literal, Skip, Search, GroupStart, GroupStop}
 use Rattle.dna_items.specs.declared.items.TplItem.{TplItem}
 use Rattle.dna_items.specs.declared.items.TplItem.TheVariants.{Base as TplLiteral, Group, Len}
 use Rattle.dna_items.specs.Held.{held, held_pattern_item, held_template_item, held_pattern, held_template}
 use Rattle.listing.specs.Laws.{HeldPatternHasItsText, HeldTemplateHasItsText}
-use Rattle.listing.specs.Texts.{number_text, letters_text, pattern_item_text, template_item_text, pattern_text, template_text, pair_text}
+use Rattle.listing.specs.Texts.{number_text, pattern_item_text, template_item_text, pattern_text, template_text, pair_text}
 
 pub small_text : (n : ℕ) → n < 2 ^ 63 → number_text n ≡ decimal n
 unfolding number_text

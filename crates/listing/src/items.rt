@@ -9,13 +9,22 @@ use dna_items::{PatItem, PatList, TplItem, TplList};
 use fuun_base::Base;
 use fuun_io::{Sink, WriteFault, put_all, put_pieces};
 use itoa::Buffer;
+use letters_out::put_bases;
 
 /// Writes the items of a pattern. After an error a front of their text is written.
 pub fn put_pattern<S: Sink>(items: &PatList, sink: &mut S) -> Result<(), WriteFault>
     ensures puts { Puts result (S.bytes sink.old) (S.bytes sink.new) (pattern_text items.now) }
     ensures cause { HasCause (S.faults sink.old) (S.faults sink.new) result }
 {
-    for item in items.as_slice() {
+    put_pattern_items(items.as_slice(), sink)
+}
+
+/// Writes some items of a pattern. After an error a front of their text is written.
+pub fn put_pattern_items<S: Sink>(items: &[PatItem], sink: &mut S) -> Result<(), WriteFault>
+    ensures puts { Puts result (S.bytes sink.old) (S.bytes sink.new) (pattern_text items.now) }
+    ensures cause { HasCause (S.faults sink.old) (S.faults sink.new) result }
+{
+    for item in items {
         put_pattern_item(item, sink)?;
     }
     Ok(())
@@ -96,17 +105,6 @@ fn put_search<S: Sink>(bases: &[Base], sink: &mut S) -> Result<(), WriteFault>
     ensures cause { HasCause (S.faults sink.old) (S.faults sink.new) result }
 {
     put_all(sink, b"<")?;
-    put_letters(bases, sink)?;
+    put_bases(bases, sink)?;
     put_all(sink, b">")
-}
-
-// Writes the letters of bases.
-fn put_letters<S: Sink>(bases: &[Base], sink: &mut S) -> Result<(), WriteFault>
-    ensures puts { Puts result (S.bytes sink.old) (S.bytes sink.new) (letters_text bases.now) }
-    ensures cause { HasCause (S.faults sink.old) (S.faults sink.new) result }
-{
-    for base in bases {
-        put_all(sink, &[base.letter()])?;
-    }
-    Ok(())
 }

@@ -31,10 +31,10 @@ base_at_or (x ∷ d) zero b =
     ]
 base_at_or (x ∷ d) (suc i) b = base_at_or d i b
 
-abbrev MeetsSomewhere : List Base → PatItem → ℕ → Type 0
+abbrev pub MeetsSomewhere : List Base → PatItem → ℕ → Type 0
 MeetsSomewhere d item i = (j : ℕ) × Meets d item i j
 
-meets_or : (d : List Base) (item : PatItem) (i : ℕ) → MeetsSomewhere d item i ⊎ MeetsNowhere d item i
+pub meets_or : (d : List Base) (item : PatItem) (i : ℕ) → MeetsSomewhere d item i ⊎ MeetsNowhere d item i
 meets_or d (Literal b) i =
     elim (base_at_or d i b) [
       | inl there ↦ inl (i + 1, (there, refl))

@@ -8,7 +8,9 @@ mod matching;
 mod passing;
 
 pub use group_lists::GroupList;
+pub use marks::Marks;
 pub use matching::{MatchEnd, match_at};
+pub use passing::{Passed, pass};
 
 #[cfg(test)]
 mod tests;

@@ -14,6 +14,7 @@ pub struct Marks {
 }
 
 impl Marks {
+    /// No group yet.
     pub fn new(alloc: Global) -> Self
         ensures starts { result.starts.items ≡ [] }
         ensures ended { result.ended.items ≡ [] }

@@ -6,7 +6,8 @@ use Rattle.std.specs.Option.{option_and_then}
 use Rattle.std.proofs.lemmas.Bool.{eqb-true, eq-eqb}
 use Rattle.std.proofs.lemmas.Bool.Decides.{nat_tests}
 use Rattle.std.proofs.lemmas.Option.{option_and_then_some, same_Some}
-use Rattle.picture_in.specs.Header.{behind_blanks, behind_digits, behind_gap, behind_header, behind_kind, behind_number, behind_white, behind_word, is_digit, is_white}
+use Rattle.fuun_base.specs.Decimals.{is_digit}
+use Rattle.picture_in.specs.Header.{behind_blanks, behind_digits, behind_gap, behind_header, behind_kind, behind_number, behind_white, behind_word, is_white}
 use Rattle.picture_in.specs.Form.{AreBlanks, Blank, Comment, HeaderIsFound, IsGap, IsNumber, IsWord, OnlyHeaderIsFound, White, blank_bytes, value_of}
 use Rattle.picture_in.proofs.HeaderLemmas.{blanks_end, comment_begins, comment_ends, comment_more, digit_more, digits_end, white_more}
 

@@ -1,7 +1,8 @@
 -- How the parts of a header are read, byte by byte.
 use Rattle.std.proofs.Common.{◌≡◌, ℕ, ◌+◌, ◌-◌, ◌*◌, ◌<◌, true, false, List, ◌∷◌, Some, length, drop, get_or, min, refl, sym, ap, ◌∙◌, arith, add-one, drop-cons}
 use Rattle.std.specs.Prelude.{◌==◌}
-use Rattle.picture_in.specs.Header.{behind_blanks, behind_digits, is_digit, is_white}
+use Rattle.fuun_base.specs.Decimals.{is_digit}
+use Rattle.picture_in.specs.Header.{behind_blanks, behind_digits, is_white}
 
 -- the byte at a place stands before what is behind it
 pub at_front : (bytes : List ℕ) (place : ℕ) → place < length bytes → drop place bytes ≡ get_or bytes place 0 ∷ drop (place + 1) bytes

@@ -1,7 +1,8 @@
 -- The header of a raw pixmap in the words of its form: parts that stand one after another.
 use Rattle.std.specs.Prelude.{◌≡◌, ℕ, ◌+◌, ◌-◌, ◌*◌, ◌<◌, ◌==◌, not, true, Some, List, [], ◌∷◌, ◌++◌, flat_map, length}
 use Rattle.std.specs.List.{list_all}
-use Rattle.picture_in.specs.Header.{behind_header, is_digit, is_white}
+use Rattle.fuun_base.specs.Decimals.{is_digit}
+use Rattle.picture_in.specs.Header.{behind_header, is_white}
 
 -- a white byte, or a comment with these bytes between its # and its line feed
 pub data Blank : Type 0 where

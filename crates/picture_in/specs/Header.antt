@@ -1,13 +1,11 @@
 -- The header of a raw pixmap in the form of Netpbm's PPM, as what stands behind each part of it.
 use Rattle.std.specs.Prelude.{ℕ, ◌+◌, ◌-◌, ◌*◌, ◌==◌, ◌&&◌, ◌||◌, nat_le, if◌then◌else◌, Bool, true, false, Option, Some, None, List, [], ◌∷◌}
 use Rattle.std.specs.Option.{option_and_then}
+use Rattle.fuun_base.specs.Decimals.{is_digit}
 
 -- tab, line feed, vertical tab, form feed, carriage return and space
 abbrev pub is_white : ℕ → Bool
 is_white byte = (nat_le 9 byte && nat_le byte 13) || byte == 32
-
-abbrev pub is_digit : ℕ → Bool
-is_digit byte = nat_le 48 byte && nat_le byte 57
 
 -- what stands behind white bytes and comments, from within a comment or not: a comment is # up to and with the next line feed
 abbrev pub behind_blanks : Bool → List ℕ → Option (List ℕ)

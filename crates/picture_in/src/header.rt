@@ -1,9 +1,11 @@
 //! The header of a pixmap.
 ghost use Rattle.std.specs.Prelude.{◌≡◌, ◌+◌, ◌-◌, ◌*◌, ◌≤◌, ◌<◌, true, false, min};
 ghost use Rattle.std.specs.Option.{option_copied};
-ghost use Rattle.picture_in.specs.Header.{behind_blanks, behind_digits, behind_gap, behind_header, behind_kind, behind_number, behind_white, behind_word, is_digit, is_white};
+ghost use Rattle.fuun_base.specs.Decimals.{is_digit};
+ghost use Rattle.picture_in.specs.Header.{behind_blanks, behind_digits, behind_gap, behind_header, behind_kind, behind_number, behind_white, behind_word, is_white};
 
 use crate::picture::SIDE;
+use fuun_base::is_digit;
 
 /// The highest value of a channel.
 const HIGHEST: u32 = 255;
@@ -126,10 +128,4 @@ fn is_white(byte: u8) -> bool
     ensures { result ≡ is_white byte }
 {
     matches!(byte, 9..=13 | b' ')
-}
-
-fn is_digit(byte: u8) -> bool
-    ensures { result ≡ is_digit byte }
-{
-    byte.is_ascii_digit()
 }

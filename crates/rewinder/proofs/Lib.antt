@@ -1,4 +1,3 @@
-pub mod ScriptLemmas
 pub mod RangeLemmas
 pub mod VersionLemmas
 pub mod PlaceLemmas

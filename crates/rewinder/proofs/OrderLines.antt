@@ -12,11 +12,12 @@ use Rattle.std.proofs.lemmas.List.Quantifiers.{position-Some}
 use Rattle.std.proofs.lemmas.List.Sums.{position_or_len_is}
 use Rattle.std.proofs.lemmas.Option.{none-some, same_Some}
 use Rattle.std.proofs.lemmas.Slice.Eq.{bytes_eq-Decides}
+use Rattle.fuun_base.specs.Decimals.{is_digit, is_number}
+use Rattle.fuun_base.proofs.DecimalLemmas.{both_true, digit_range}
 use Rattle.rewinder.specs.declared.orders.Order.{Order}
 use Rattle.rewinder.specs.declared.orders.Order.TheVariants.{Step, Back, Show, Where}
-use Rattle.rewinder.specs.Numbers.{is_digit, is_number, number}
+use Rattle.rewinder.specs.Numbers.{number}
 use Rattle.rewinder.specs.Script.{IsRangeOf, IsCountOf, IsLineOf, behind, both_of, range_at, range_of, said_by, where_of, show_of, back_of, order_of}
-use Rattle.rewinder.proofs.ScriptLemmas.{both_true, digit_range}
 
 -- what a choice gave
 

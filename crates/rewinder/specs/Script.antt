@@ -3,7 +3,7 @@ use Rattle.std.specs.Prelude.{◌≡◌, ℕ, ◌+◌, ◌==◌, if◌then◌els
 use Rattle.std.specs.List.{filter_map, position_from}
 use Rattle.std.specs.Option.{option_map}
 use Rattle.std.specs.Str.{bytes_eq}
-use Rattle.fuun_base.specs.RnaFile.{lines}
+use Rattle.fuun_base.specs.Lines.{lines}
 use Rattle.rewinder.specs.declared.orders.Order.{Order}
 use Rattle.rewinder.specs.declared.orders.Order.TheVariants.{Step, Back, Show, Where}
 use Rattle.rewinder.specs.Numbers.{number}

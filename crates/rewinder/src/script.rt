@@ -1,11 +1,10 @@
-ghost use Rattle.std.specs.Prelude.{◌≡◌, ℕ, ◌+◌, ◌^◌, ◌<◌, ◌≤◌, ◌==◌, Some, None, IfOk, IfSome, IsTrue, MatchOption, OnOk, drop, min, length, position, unwrap_or};
+ghost use Rattle.std.specs.Prelude.{◌≡◌, ℕ, ◌^◌, ◌<◌, ◌≤◌, ◌==◌, Some, None, IfOk, IfSome, OnOk, length, position};
 ghost use Rattle.std.specs.Option.{option_map};
-ghost use Rattle.std.specs.List.{list_all};
-ghost use Rattle.std.specs.Str.Parse.{digits_value};
-ghost use Rattle.rewinder.specs.Numbers.{is_digit, is_number, number};
+ghost use Rattle.rewinder.specs.Numbers.{number};
 ghost use Rattle.rewinder.specs.Script.{back_of, behind, first_bad, order_of, orders, range_of, show_of, where_of};
 
 use crate::{Order, OrderList, ScriptError};
+use fuun_base::{decimal, first_line};
 use std::alloc::Global;
 
 /// The greatest number of a script.
@@ -24,38 +23,15 @@ pub fn read_script(alloc: Global, bytes: &[u8]) -> Result<OrderList, ScriptError
     let mut rest = bytes;
     let mut line = 1;
     while rest.len() > 0 {
-        let len = line_len(rest);
-        let Some(order) = order_of(&rest[..len]) else {
+        let (text, more) = first_line(rest);
+        let Some(order) = order_of(text) else {
             return Err(ScriptError::BadScript { line });
         };
         list.push(order)?;
-        rest = after_line(rest, len);
+        rest = more;
         line += 1;
     }
     Ok(list)
-}
-
-// Where the first line feed stands.
-fn line_feed(bytes: &[u8]) -> Option<usize>
-    ensures { result ≡ position (λ byte. byte == 10) bytes.now }
-{
-    bytes.iter().position(|byte| *byte == b'\n')
-}
-
-// How many bytes the first line has.
-fn line_len(bytes: &[u8]) -> usize
-    ensures value { result ≡ unwrap_or (position (λ byte. byte == 10) bytes.now) (length bytes.now) }
-    ensures within { result ≤ length bytes.now }
-{
-    line_feed(bytes).unwrap_or(bytes.len())
-}
-
-// What stands behind a first line of this length.
-fn after_line(bytes: &[u8], len: usize) -> &[u8]
-    requires { len ≤ length bytes.now }
-    ensures { result.now ≡ drop (len + 1) bytes.now }
-{
-    &bytes[bytes.len().min(len + 1)..]
 }
 
 // The order of a line.
@@ -125,27 +101,5 @@ fn range_of(text: &[u8]) -> Option<Order>
 fn number(text: &[u8]) -> Option<u64>
     ensures { result ≡ number text.now }
 {
-    if text.len() == 0 || !has_digits_alone(text) {
-        return None;
-    }
-    let value = value_up_to_most(text);
-    if value <= MOST { Some(value) } else { None }
-}
-
-fn has_digits_alone(text: &[u8]) -> bool
-    ensures { result ≡ list_all is_digit text.now }
-{
-    text.iter().all(|byte| byte.is_ascii_digit())
-}
-
-// The number that digits write, or the first above the greatest where it is above.
-fn value_up_to_most(digits: &[u8]) -> u64
-    requires { IsTrue (list_all is_digit digits.now) }
-    ensures { result ≡ min (digits_value 10 digits.now) (MOST + 1) }
-{
-    let mut value = 0;
-    for digit in digits {
-        value = (value * 10 + u64::from(*digit - b'0')).min(MOST + 1);
-    }
-    value
+    decimal(text, MOST)
 }

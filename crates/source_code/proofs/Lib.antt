@@ -9,4 +9,3 @@ pub mod Settled
 pub mod LawLemmas
 pub mod AnswerLemmas
 pub mod ReadLemmas
-pub mod Worked

@@ -2,5 +2,4 @@ pub mod Lengths
 pub mod Answers
 pub mod Laws
 pub mod Totals
-pub mod Worked
 pub mod Kept

@@ -1,6 +1,5 @@
 //! What holds of the definitions. Each call does nothing: its clause is the law.
 ghost use Rattle.source_code.specs.Laws.{AnswerIsOne, CodeHasLength, CodesHaveLengths, HasAnswer, HasLengths, KeptAnswersAlike, LengthsAreOne, NamesAreDistances, OthersAreBehind, PairIsRead, PairIsReadInPlace, ReadableAlike};
-ghost use Rattle.source_code.specs.Worked.{OwnLengthWorked, ValuesWorked};
 
 /// Lines have exactly one list of lengths.
 pub fn one_list_of_lengths()
@@ -36,10 +35,4 @@ pub fn pairs_are_read()
     ensures read { PairIsRead }
     ensures in_place { PairIsReadInPlace }
     ensures alike { ReadableAlike }
-{}
-
-/// A length that is its line's own number, and the values of some sums.
-pub fn values_worked()
-    ensures own { OwnLengthWorked }
-    ensures values { ValuesWorked }
 {}

@@ -8,7 +8,7 @@ use Rattle.std.proofs.lemmas.Str.Parse.{digit_from_value}
 use Rattle.fuun_base.specs.declared.letters.Base.{Base}
 use Rattle.fuun_base.specs.declared.letters.Base.TheVariants.{I, C, F, P}
 use Rattle.fuun_base.specs.Letter.{letter_of}
-use Rattle.fuun_base.specs.RnaFile.{before_lines, lines}
+use Rattle.fuun_base.specs.Lines.{before_lines, lines}
 use Rattle.dna_items.specs.declared.items.PatItem.{PatItem}
 use Rattle.dna_items.specs.declared.items.PatItem.TheVariants as pat
 use Rattle.dna_items.specs.declared.items.TplItem.{TplItem}

@@ -17,7 +17,8 @@ use Rattle.listing.specs.Texts.{letters_text, number_text, pair_text, pattern_it
 use Rattle.listing.proofs.TextLemmas.{small_text}
 use Rattle.source_tokens.specs.declared.words.Token.{Token}
 use Rattle.source_tokens.specs.declared.words.Word.TheVariants.{Arrow, Greater, Number}
-use Rattle.source_tokens.specs.Bytes.{is_digit, is_lower}
+use Rattle.fuun_base.specs.Decimals.{is_digit}
+use Rattle.source_tokens.specs.Bytes.{is_lower}
 use Rattle.source_tokens.specs.Statements.{line_scan, nothing_yet}
 use Rattle.source_tokens.specs.Words.{Reading, Scan, number_of, reading, scan, sign_of, token_at, with_digit, with_word, word_at}
 use Rattle.source_tokens.proofs.WordLemmas.{digit_word, scan_on}

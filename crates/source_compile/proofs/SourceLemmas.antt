@@ -1,7 +1,7 @@
 -- Each text that is assembled is a source, with the same DNA.
 use Rattle.std.proofs.Common.{◌≡◌, ℕ, ◌+◌, Ok, List, [], ◌∷◌, ◌++◌, length, arith, refl, sym, ap, ◌∙◌, subst, append_assoc, append-nil, length-append}
 use Rattle.std.specs.List.{AllByRecursion}
-use Rattle.fuun_base.specs.RnaFile.{lines}
+use Rattle.fuun_base.specs.Lines.{lines}
 use Rattle.source_code.specs.Answers.{IsAnswer}
 use Rattle.source_text.specs.Judging.{Placed, state}
 use Rattle.source_text.specs.Names.{Names, first_meanings}

@@ -8,10 +8,10 @@ ghost use Rattle.source_text.specs.Pieces.{bases_of, pattern_item, pattern_of, t
 
 use crate::held::{Held, bases_of};
 use crate::measure::held_sum;
-use crate::pieces::{Item, Piece, copied_bases, copied_sum, template_item};
+use crate::pieces::{Item, Piece, copied_bases, template_item};
 use dna_items::{PatItem, TplList};
 use fuun_base::{Base, List, NoMemory};
-use source_items::{CountedSkip, Line, SourceItem};
+use source_items::{CountedSkip, Line, SourceItem, copied_sum};
 use std::alloc::Global;
 
 /// The line of a pattern and a template.

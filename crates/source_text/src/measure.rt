@@ -6,11 +6,11 @@ ghost use Rattle.source_text.specs.declared.pieces.Piece.{Piece as PieceOf};
 ghost use Rattle.source_text.specs.Measured.{IsMeasured, fixed_len, repeated_skip, skips_in};
 ghost use Rattle.source_text.specs.Pieces.{are_bases, bases_of, pattern_item, piece_at, times};
 
-use crate::pieces::{Item, copied_bases, copied_sum, template_item};
+use crate::pieces::{Item, copied_bases, template_item};
 use dna_items::{BIG, PatItem};
 use fuun_base::NoMemory;
 use item_codes::{pattern_item_len, template_item_len};
-use source_items::CountedSkip;
+use source_items::{CountedSkip, copied_sum};
 use std::alloc::Global;
 
 /// How long the codes of pieces are, each number held at 2^63.

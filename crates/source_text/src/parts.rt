@@ -1,5 +1,5 @@
 //! Parts of sequences that hold no others.
-ghost use Rattle.std.specs.Prelude.{◌≡◌, ℕ, ◌^◌, ◌<◌, ◌≤◌, ◌∷◌, [], suc, length, IfOk};
+ghost use Rattle.std.specs.Prelude.{ℕ, ◌^◌, ◌<◌, ◌≤◌, suc, length, IfOk};
 ghost use Rattle.source_text.specs.Keeping.{AreKnown, IsWorth, Reads};
 ghost use Rattle.source_text.specs.Names.{Names};
 ghost use Rattle.source_text.specs.Sequences.{Inside, Worth, both, closed, group_part, len_part, level_part, nothing, one, piece_worth, repeated, repeats, skip_part, sum_part};
@@ -11,8 +11,8 @@ use crate::pieces::{Item, Piece};
 use crate::signs::{Sign, behind, stands, tail};
 use crate::sums::{factor, sum};
 use fuun_base::NoMemory;
-use source_items::{Factor, Product, Sum};
-use source_tokens::{Token, Word};
+use source_items::sum_of;
+use source_tokens::Token;
 use std::alloc::Global;
 
 /// In what a sequence is read.
@@ -177,17 +177,6 @@ fn sum_part<'a>(
         rest,
     )?;
     Ok(read)
-}
-
-// The sum of one factor.
-fn sum_of(alloc: Global, factor: Factor) -> Result<Sum, NoMemory>
-    ensures { IfOk result (λ sum. sum ≡ (factor ∷ []) ∷ []) }
-{
-    let mut product = Product::new(alloc);
-    product.push(factor)?;
-    let mut sum = Sum::new(alloc);
-    sum.push(product)?;
-    Ok(sum)
 }
 
 /// Reads a reference, behind the `{` at this place.

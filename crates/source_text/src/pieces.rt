@@ -4,7 +4,7 @@ ghost use Rattle.source_text.specs.Pieces.{template_item};
 
 use dna_items::TplItem;
 use fuun_base::{Base, BaseList, NoMemory};
-use source_items::{Product, Sum};
+use source_items::{Sum, copied_sum};
 use std::alloc::Global;
 
 /// What a piece stands for.
@@ -73,24 +73,6 @@ fn copied_item(alloc: Global, item: &Item) -> Result<Item, NoMemory>
         Item::Start => Ok(Item::Start),
         Item::Stop => Ok(Item::Stop),
     }
-}
-
-pub(crate) fn copied_sum(alloc: Global, sum: &Sum) -> Result<Sum, NoMemory>
-    ensures { IfOk result (λ copy. copy ≡ sum.now) }
-{
-    let products = sum.as_slice();
-    let mut copy = Sum::new(alloc);
-    'products: for product in products {
-        copy.push(copied_product(alloc, product)?)?;
-    }
-    Ok(copy)
-}
-
-fn copied_product(alloc: Global, product: &Product) -> Result<Product, NoMemory>
-    ensures { IfOk result (λ copy. copy ≡ product.now) }
-{
-    let factors = Vec::from_slice(alloc, product.as_slice())?;
-    Ok(Product::from_vec(factors))
 }
 
 pub(crate) fn copied_bases(alloc: Global, bases: &BaseList) -> Result<BaseList, NoMemory>

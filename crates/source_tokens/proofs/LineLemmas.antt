@@ -1,11 +1,10 @@
 -- Statements line by line.
-use Rattle.std.proofs.Common.{◌≡◌, ℕ, ◌+◌, ◌<◌, ◌≤◌, inl, inr, Option, Some, None, List, [], ◌∷◌, ◌++◌, length, drop, take, arith, refl, sym, ap, ◌∙◌, min, position, unwrap_or, length-drop}
-use Rattle.std.specs.Prelude.{◌==◌, MatchOption}
+use Rattle.std.proofs.Common.{◌≡◌, ℕ, ◌+◌, ◌≤◌, inl, inr, Option, Some, None, List, [], ◌∷◌, ◌++◌, length, drop, arith, refl, sym, ap, ◌∙◌, min, length-drop}
+use Rattle.std.specs.Prelude.{MatchOption}
 use Rattle.std.specs.Option.{option_to_list}
 use Rattle.std.proofs.lemmas.Bool.{cases_lt}
-use Rattle.std.proofs.lemmas.List.{drop-drop, drop_all, length-take-le}
-use Rattle.fuun_base.specs.RnaFile.{lines}
-use Rattle.fuun_base.proofs.RnaLines.{first_len, lines_first}
+use Rattle.std.proofs.lemmas.List.{drop-drop, drop_all}
+use Rattle.fuun_base.specs.Lines.{lines}
 use Rattle.source_tokens.specs.declared.statements.Statement.{Statement}
 use Rattle.source_tokens.specs.declared.words.Token.{Token}
 use Rattle.source_tokens.specs.Statements.{before, line_scan, statements_from, statements_of}
@@ -35,23 +34,18 @@ lines_behind met place len next text is =
           ∙ ap (λ n. statements_of met n (lines (drop next text))) there
     ]
 
-pub line_read : (met now : List (List ℕ)) (place len next end : ℕ) (text : List ℕ) (tokens : List Token) → place < length text → len ≤ length (drop place text)
-    → len ≡ unwrap_or (position (λ byte. byte == 10) (drop place text)) (length (drop place text))
-    → next ≡ min (length text) (place + len + 1)
-    → tokens ≡ (line_scan met place (take len (drop place text))).tokens → end ≡ (line_scan met place (take len (drop place text))).end → now ≡ (line_scan met place (take len (drop place text))).met
+pub line_read : (met now : List (List ℕ)) (place next end : ℕ) (text line more : List ℕ) (tokens : List Token) → lines (drop place text) ≡ line ∷ lines more → more ≡ drop (length line + 1) (drop place text)
+    → next ≡ min (length text) (place + length line + 1)
+    → tokens ≡ (line_scan met place line).tokens → end ≡ (line_scan met place line).end → now ≡ (line_scan met place line).met
     → statements_from met place text ≡ before tokens end (statements_from now next text)
-line_read met now place len next end text tokens within short is next_is a b c =
-    let rest = drop place text in
-    let some : 0 < length rest = omega (arith, length-drop place text) in
-    let line = take len rest in
-    let first : lines rest ≡ line ∷ lines (drop (len + 1) rest) = rw (first_len rest len is) (lines_first rest some) in
-    let size : length line ≡ len = length-take-le len rest short in
+line_read met now place next end text line more tokens first rest next_is a b c =
+    let scan = line_scan met place line in
     ap (statements_of met place) first
-    ∙ first_line met place line (lines (drop (len + 1) rest))
-    ∙ ap (λ n. before (line_scan met place line).tokens (line_scan met place line).end (statements_of (line_scan met place line).met (place + n + 1) (lines (drop (len + 1) rest)))) size
-    ∙ ap (before (line_scan met place line).tokens (line_scan met place line).end) (lines_behind (line_scan met place line).met place len next text next_is)
-    ∙ ap (λ m. before (line_scan met place line).tokens (line_scan met place line).end (statements_from m next text)) (sym c)
-    ∙ ap (λ t. before t (line_scan met place line).end (statements_from now next text)) (sym a)
+    ∙ first_line met place line (lines more)
+    ∙ ap (λ r. before scan.tokens scan.end (statements_of scan.met (place + length line + 1) (lines r))) rest
+    ∙ ap (before scan.tokens scan.end) (lines_behind scan.met place (length line) next text next_is)
+    ∙ ap (λ m. before scan.tokens scan.end (statements_from m next text)) (sym c)
+    ∙ ap (λ t. before t scan.end (statements_from now next text)) (sym a)
     ∙ ap (λ e. before tokens e (statements_from now next text)) (sym b)
 
 -- a statement of these tokens

@@ -7,7 +7,8 @@ use Rattle.source_tokens.specs.declared.bytes.Kind.TheVariants.{Digit, NamePart}
 use Rattle.source_tokens.specs.declared.words.Token.{Token}
 use Rattle.source_tokens.specs.declared.words.Word.{Word}
 use Rattle.source_tokens.specs.declared.words.Word.TheVariants.{Number}
-use Rattle.source_tokens.specs.Bytes.{is_digit, is_lower, stretch}
+use Rattle.fuun_base.specs.Decimals.{is_digit}
+use Rattle.source_tokens.specs.Bytes.{is_lower, stretch}
 use Rattle.source_tokens.specs.Words.{Reading, Scan, name_at, number_of, reading, scan, token_at, with_digit, with_word, word_at}
 use Rattle.source_tokens.proofs.Steps.{next_byte}
 

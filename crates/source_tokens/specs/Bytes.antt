@@ -1,12 +1,10 @@
 -- Kinds of bytes.
 use Rattle.std.specs.Prelude.{ℕ, ◌==◌, ◌&&◌, ◌||◌, Bool, List, nat_le}
 use Rattle.std.specs.List.{prefix_len}
+use Rattle.fuun_base.specs.Decimals.{is_digit}
 use Rattle.fuun_base.specs.Letter.{is_blank}
 use Rattle.source_tokens.specs.declared.bytes.Kind.{Kind}
 use Rattle.source_tokens.specs.declared.bytes.Kind.TheVariants.{Blank, Digit, NamePart}
-
-abbrev pub is_digit : ℕ → Bool
-is_digit byte = nat_le 48 byte && nat_le byte 57
 
 abbrev pub is_lower : ℕ → Bool
 is_lower byte = nat_le 97 byte && nat_le byte 122

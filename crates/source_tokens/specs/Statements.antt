@@ -1,6 +1,6 @@
 -- The statements of a source.
 use Rattle.std.specs.Prelude.{ℕ, ◌+◌, List, [], ◌∷◌, drop, length}
-use Rattle.fuun_base.specs.RnaFile.{lines}
+use Rattle.fuun_base.specs.Lines.{lines}
 use Rattle.source_tokens.specs.declared.statements.Statement.{Statement}
 use Rattle.source_tokens.specs.declared.words.Token.{Token}
 use Rattle.source_tokens.specs.Names.{first_names}

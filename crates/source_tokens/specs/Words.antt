@@ -1,12 +1,13 @@
 -- The words of a line, as it is read.
 use Rattle.std.specs.Prelude.{ℕ, suc, zero, ◌+◌, ◌-◌, ◌*◌, ◌^◌, ◌==◌, ◌&&◌, if◌then◌else◌, Bool, false, List, [], ◌∷◌, ◌++◌, fold, min, take}
 use Rattle.std.specs.Option.{option_map_or}
+use Rattle.fuun_base.specs.Decimals.{is_digit}
 use Rattle.fuun_base.specs.Letter.{base_of, is_blank}
 use Rattle.source_tokens.specs.declared.bytes.Kind.TheVariants.{Digit, NamePart}
 use Rattle.source_tokens.specs.declared.words.Word.{Word}
 use Rattle.source_tokens.specs.declared.words.Word.TheVariants.{Arrow, Equals, Colon, Semicolon, Comma, Plus, Star, Bang, Bar, Open, Close, OpenBracket, CloseBracket, OpenBrace, CloseBrace, Less, Greater, Base, Number, Name, Other}
 use Rattle.source_tokens.specs.declared.words.Token.{Token}
-use Rattle.source_tokens.specs.Bytes.{is_digit, is_lower, stretch}
+use Rattle.source_tokens.specs.Bytes.{is_lower, stretch}
 use Rattle.source_tokens.specs.Names.{name_id, with_name}
 
 -- a number with a digit behind it

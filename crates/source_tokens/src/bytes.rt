@@ -1,7 +1,9 @@
 //! Kinds of bytes, and how far they stretch.
 ghost use Rattle.std.specs.Prelude.{◌≡◌, ◌≤◌, drop, length};
-ghost use Rattle.source_tokens.specs.Bytes.{is_digit, is_lower, is_of, stretch};
+ghost use Rattle.source_tokens.specs.Bytes.{is_lower, is_of, stretch};
 ghost use Rattle.fuun_base.specs.Letter.{is_blank};
+
+use fuun_base::is_digit;
 
 /// What a byte may be.
 #[derive(Clone, Copy)]
@@ -38,12 +40,6 @@ pub(crate) fn is_blank(byte: u8) -> bool
     ensures { result ≡ is_blank byte }
 {
     byte == b' ' || byte == b'\t' || byte == b'\r'
-}
-
-pub(crate) fn is_digit(byte: u8) -> bool
-    ensures { result ≡ is_digit byte }
-{
-    b'0' <= byte && byte <= b'9'
 }
 
 pub(crate) fn is_lower(byte: u8) -> bool

@@ -3,10 +3,10 @@ ghost use Rattle.std.specs.Prelude.{◌≡◌, ◌+◌, ◌≤◌, ◌^◌, ◌<
 ghost use Rattle.source_tokens.specs.Statements.{line_scan};
 ghost use Rattle.source_tokens.specs.Words.{base_or_other, is_arrow, number_of, sign_of, with_digit, word_at};
 
-use crate::bytes::{Kind, is_blank, is_digit, is_lower, rest_from, stretch};
+use crate::bytes::{Kind, is_blank, is_lower, rest_from, stretch};
 use crate::names::Names;
 use crate::words::{Token, Word};
-use fuun_base::{Base, List, NoMemory};
+use fuun_base::{Base, List, NoMemory, is_digit};
 use std::alloc::Global;
 
 /// Reads the tokens of a line that stands behind so many bytes, and tells the place behind the last of them.

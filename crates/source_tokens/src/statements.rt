@@ -1,5 +1,5 @@
 //! The statements of a source.
-ghost use Rattle.std.specs.Prelude.{◌≡◌, ◌≤◌, ◌∷◌, ◌++◌, ◌==◌, [], None, IfOk, OnErr, MatchOption, length, position, unwrap_or};
+ghost use Rattle.std.specs.Prelude.{◌≡◌, ◌≤◌, ◌∷◌, ◌++◌, [], None, IfOk, OnErr, MatchOption, length};
 ghost use Rattle.std.specs.Option.{option_to_list};
 ghost use Rattle.source_tokens.specs.Statements.{statements, statements_from};
 
@@ -8,7 +8,7 @@ use crate::names::Names;
 use crate::plain::plain_text;
 use crate::scan::line_tokens;
 use crate::words::Token;
-use fuun_base::{List, NoMemory};
+use fuun_base::{List, NoMemory, first_line};
 use std::alloc::Global;
 use std::marker::Model;
 
@@ -92,8 +92,7 @@ fn next_from(
 {
     let mut place = start;
     'lines: while place < text.len() {
-        let rest = rest_from(text, place);
-        let line = &rest[..line_len(rest)];
+        let (line, _more) = first_line(rest_from(text, place));
         let (tokens, end) = line_tokens(alloc, names, place, line)?;
         place = text.len().min(place + line.len() + 1);
         if !tokens.is_empty() {
@@ -101,19 +100,4 @@ fn next_from(
         }
     }
     Ok((None, place))
-}
-
-// How many bytes the first line has.
-fn line_len(bytes: &[u8]) -> usize
-    ensures value { result ≡ unwrap_or (position (λ byte. byte == 10) bytes.now) (length bytes.now) }
-    ensures within { result ≤ length bytes.now }
-{
-    line_feed(bytes).unwrap_or(bytes.len())
-}
-
-// Where the first line feed stands.
-fn line_feed(bytes: &[u8]) -> Option<usize>
-    ensures { result ≡ position (λ byte. byte == 10) bytes.now }
-{
-    bytes.iter().position(|byte| *byte == b'\n')
 }

@@ -1,5 +1,5 @@
-use Rattle.std.proofs.Common.{◌≡◌, ◌+◌, ◌∙◌, ap, arith, [], length, length-drop, subst, sym, Err}
-use Rattle.fuun_base.specs.RnaFile.{lines}
+use Rattle.std.proofs.Common.{◌≡◌, ◌∙◌, arith, [], subst, sym, Err}
+use Rattle.fuun_base.specs.Lines.{lines}
 use Rattle.assembler.specs.declared.assembling.AsmError.TheVariants.{Unreadable, NoMemory}
 use Rattle.assembler.specs.Answers.{IsAssembled, ReadsPairs}
 use Rattle.assembler.proofs.AnswerLemmas.{IsSoFar, none_so_far, so_far_more, refused_is_answer, all_is_answer, assembled_is_read, refused_is_not_read}
@@ -13,21 +13,20 @@ lines-init c = record {
 
 pub returns-in-Err-clause-refused : goal.returns-in-Err-clause-refused
 returns-in-Err-clause-refused c other =
-    refused_is_answer c.args.text.now c.lines.rest.now c.lines.number c.line_len-len.result c.lines.bases.items c.in-Err.error c.lines.invariant.so_far c.lines-test.true c.line_len-len.ensures.value c.in-Err.ensures.refused other
+    refused_is_answer c.args.text.now c.lines.rest.now c.first_line.result.0.now c.first_line.result.1.now c.lines.number c.lines.bases.items c.in-Err.error c.lines.invariant.so_far c.first_line.ensures.lines c.in-Err.ensures.refused other
 
 pub returns-in-Err-clause-no_dna : goal.returns-in-Err-clause-no_dna
 returns-in-Err-clause-no_dna c number e =
     let is : c.in-Err.error ≡ Unreadable number = cc in
     let answer : IsAssembled c.args.text.now (Err (Unreadable number)) =
     subst (λ x. IsAssembled c.args.text.now (Err x)) is
-    (refused_is_answer c.args.text.now c.lines.rest.now c.lines.number c.line_len-len.result c.lines.bases.items c.in-Err.error c.lines.invariant.so_far c.lines-test.true c.line_len-len.ensures.value c.in-Err.ensures.refused (λ n. let clash : Unreadable number ≡ NoMemory = sym is ∙ n in cc)) in
+    (refused_is_answer c.args.text.now c.lines.rest.now c.first_line.result.0.now c.first_line.result.1.now c.lines.number c.lines.bases.items c.in-Err.error c.lines.invariant.so_far c.first_line.ensures.lines c.in-Err.ensures.refused (λ n. let clash : Unreadable number ≡ NoMemory = sym is ∙ n in cc)) in
     refused_is_not_read (lines c.args.text.now) number answer
 
 pub lines-preserved : goal.lines-preserved
 lines-preserved c = record {
-  so_far = subst (λ r. IsSoFar c.args.text.now r (c.lines.number + 1) c.assemble_line.new.out.items) (sym c.rest_from-rest.ensures)
-      (so_far_more c.args.text.now c.lines.rest.now c.lines.number c.line_len-len.result c.lines.bases.items c.assemble_line.new.out.items c.lines.invariant.so_far c.lines-test.true c.line_len-len.ensures.value c.in_default.ensures.taken);
-  counted = omega (arith, ap length c.rest_from-rest.ensures, length-drop (c.line_len-len.result + 1) c.lines.rest.now, c.lines-test.true, c.lines.invariant.counted);
+  so_far = so_far_more c.args.text.now c.lines.rest.now c.first_line.result.0.now c.first_line.result.1.now c.lines.number c.lines.bases.items c.assemble_line.new.out.items c.lines.invariant.so_far c.first_line.ensures.lines c.in_default.ensures.taken;
+  counted = omega (arith, c.first_line.ensures.shorter, c.lines.invariant.counted);
 }
 
 pub returns-in-Ok-clause-reads : goal.returns-in-Ok-clause-reads

@@ -1,4 +1,4 @@
-use Rattle.std.proofs.Common.{arith, sym, subst}
+use Rattle.std.proofs.Common.{◌≡◌, arith, rules, sym, subst}
 use Rattle.explainer.specs.Passing.{LeadTo, PassesSo}
 use Rattle.explainer.proofs.ByItems.{gone_within, gone_open, gone_on, gone_through}
 use Rattle.explainer.proofs.matching.match_cells.Goals as goal
@@ -17,5 +17,6 @@ loop-item-preserved c =
 
 pub returns : goal.returns
 returns c =
-    subst (LeadTo c.args.dna.now c.args.items.now c.loop-item.at) (sym c.from_vec.ensures)
+    let same : c.from_vec.result ≡ c.loop-item.marks.ended.items = search rules in
+    subst (LeadTo c.args.dna.now c.args.items.now c.loop-item.at) (sym same)
     (gone_through c.args.dna.now c.args.items.now c.loop-item.item-index c.loop-item.at c.loop-item.marks.starts.items c.loop-item.marks.ended.items c.loop-item.invariant (omega (arith, c.loop-item-test.false, c.loop-item.auto.item-index-end)))

@@ -3,7 +3,7 @@ use Rattle.std.specs.List.{flat_map}
 use Rattle.std.proofs.lemmas.Result.{MatchResult-from_err}
 use Rattle.fuun_io.proofs.WrittenLemmas.{PutsFront-longer}
 use Rattle.explainer.specs.Lines.{end_line, rna_line, seg_line}
-use Rattle.explainer.proofs.ByParts.{puts_behind}
+use Rattle.letters_out.proofs.PieceLemmas.{puts_behind}
 use Rattle.explainer.proofs.writing.put_explained.Goals as goal
 
 pub returns-in_err-put_end-clause-puts : goal.returns-in_err-put_end-clause-puts

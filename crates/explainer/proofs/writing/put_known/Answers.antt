@@ -2,7 +2,7 @@ use Rattle.std.proofs.Common.{◌++◌, codes, map}
 use Rattle.std.proofs.lemmas.Result.{MatchResult-from_err}
 use Rattle.fuun_io.proofs.WrittenLemmas.{PutsFront-longer}
 use Rattle.fuun_base.specs.Letter.{letter_of}
-use Rattle.explainer.proofs.ByParts.{puts_behind}
+use Rattle.letters_out.proofs.PieceLemmas.{puts_behind}
 use Rattle.explainer.proofs.writing.put_known.Goals as goal
 
 pub returns-in_err-put_all-clause-puts : goal.returns-in_err-put_all-clause-puts

@@ -4,7 +4,7 @@ use Rattle.std.proofs.lemmas.Result.{MatchResult-from_err}
 use Rattle.fuun_io.proofs.WrittenLemmas.{PutsFront-longer}
 use Rattle.fuun_io.specs.Written.{PutsFront, Puts, appended}
 use Rattle.explainer.specs.Lines.{rna_line, seg_line}
-use Rattle.explainer.proofs.ByParts.{puts_behind}
+use Rattle.letters_out.proofs.PieceLemmas.{puts_behind}
 use Rattle.explainer.proofs.writing.put_lines.Goals as goal
 
 pub returns-in_err-put_rna-clause-puts : goal.returns-in_err-put_rna-clause-puts

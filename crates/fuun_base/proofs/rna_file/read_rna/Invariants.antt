@@ -1,7 +1,8 @@
 use Rattle.std.proofs.Common.{◌≡◌, ◌+◌, ◌≤◌, ◌++◌, length}
 use Rattle.std.specs.Prelude.{not}
 use Rattle.std.specs.List.{position_from}
-use Rattle.fuun_base.specs.RnaFile.{commands, first_bad, is_command, lines}
+use Rattle.fuun_base.specs.Lines.{lines}
+use Rattle.fuun_base.specs.RnaFile.{commands, first_bad, is_command}
 use Rattle.fuun_base.proofs.rna_file.read_rna.Given as goal
 
 abbrev pub invariant-loop-rest : goal.invariant-loop-rest

@@ -1,4 +1,4 @@
-use Rattle.std.proofs.Common.{ap, drop, Err}
+use Rattle.std.proofs.Common.{ap, Err}
 use Rattle.listing.specs.Lists.{NoPattern, NoTemplate}
 use Rattle.listing.proofs.pairs.read_pair.Goals as goal
 

@@ -1,7 +1,7 @@
 use Rattle.std.proofs.Common.{◌≡◌, ◌+◌, ◌≤◌, ◌++◌, length}
 use Rattle.std.specs.Prelude.{is_none}
 use Rattle.std.specs.List.{position_from}
-use Rattle.fuun_base.specs.RnaFile.{lines}
+use Rattle.fuun_base.specs.Lines.{lines}
 use Rattle.rewinder.specs.Script.{first_bad, order_of, orders}
 use Rattle.rewinder.proofs.script.read_script.Given as goal
 

@@ -1,0 +1,4 @@
+pub mod Way
+pub mod Told
+pub mod Laws
+pub mod Groups

@@ -1,8 +1,0 @@
-use Rattle.std.proofs.Common.{◌^◌, get_or, refl}
-use Rattle.rewinder.proofs.ScriptLemmas.{value_more}
-use Rattle.rewinder.proofs.script.value_up_to_most.Goals as goal
-
-pub loop-digit-preserved : goal.loop-digit-preserved
-loop-digit-preserved c =
-    let step = value_more c.args.digits.now c.loop-digit.digit-index (2 ^ 40) c.loop-digit.value (get_or c.args.digits.now c.loop-digit.digit-index 0) c.requires c.loop-digit-test.true refl c.loop-digit.invariant in
-    rw (c.min-value.ensures, c.from.ensures) step

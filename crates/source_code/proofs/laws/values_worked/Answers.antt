@@ -1,8 +1,0 @@
-use Rattle.source_code.proofs.Worked.{own_length_worked, values_are_worked}
-use Rattle.source_code.proofs.laws.values_worked.Goals as goal
-
-pub returns-clause-own : goal.returns-clause-own
-returns-clause-own c = own_length_worked
-
-pub returns-clause-values : goal.returns-clause-values
-returns-clause-values c = values_are_worked

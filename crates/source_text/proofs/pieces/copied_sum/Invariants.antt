@@ -1,5 +1,0 @@
-use Rattle.std.proofs.Common.{◌≡◌, take}
-use Rattle.source_text.proofs.pieces.copied_sum.Given as goal
-
-abbrev pub invariant-products : goal.invariant-products
-invariant-products l = l.copy ≡ take l.product-index l.products
