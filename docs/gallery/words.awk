@@ -4,8 +4,8 @@
 BEGIN {
     count = split("IIIPIPIIIC black IIIPIPIIIP red IIIPIPIICC green IIIPIPIICF yellow IIIPIPIICP blue IIIPIPIIFC magenta " \
         "IIIPIPIIFF cyan IIIPIPIIPC white IIIPIPIIPF transparent IIIPIPIIPP opaque IIIPIIPICP empty IIIPIIIIIP move " \
-        "IIIPCCCCCP left IIIPFFFFFP right IIIPCCIFFP mark IIIPFFICCP line IIIPIIPIIP fill IIIPCCPFFP layer " \
-        "IIIPFFPCCP compose IIIPFFICCF clip", word, " ")
+        "IIIPCCCCCP counterclockwise IIIPFFFFFP clockwise IIIPCCIFFP mark IIIPFFICCP line IIIPIIPIIP fill " \
+        "IIIPCCPFFP layer IIIPFFPCCP compose IIIPFFICCF clip", word, " ")
 }
 {
     rest = $0
