@@ -45,7 +45,8 @@ BEGIN {
     quote = "'"
     count = split("rest self data", first, " ")
     for (at = 1; at <= count; at++) reserved[first[at]] = 1
-    count = split("black red green yellow blue magenta cyan white transparent opaque empty move counterclockwise clockwise mark line fill layer compose clip", first, " ")
+    commands = "black red green yellow blue magenta cyan white transparent opaque empty move counterclockwise clockwise mark line fill layer compose clip"
+    count = split(commands, first, " ")
     for (at = 1; at <= count; at++) command[first[at]] = 1
     for (word in reserved) known[word] = 1
     for (word in command) known[word] = 1
@@ -90,7 +91,8 @@ END {
     else if (status == 21) {
         near = 3
         for (other in known) if ((far = distance(token, other)) < near && far < length(token) - 1) { near = far; meant = other }
-        print named " is not known there" (meant == "" ? ": a definition stands above its uses, and a label below them" : "; " quote meant quote " is")
+        if (meant != "") print named " is not known there; " quote meant quote " is"
+        else print named " is not known there: a definition stands above its uses, a label below them, and the commands are " commands
     } else if (status == 22 && token == "->") print "a sum of this pair is too great"
     else if (status == 22) print named " is too great"
     else if (token == ")") print "this ) ends no group"
