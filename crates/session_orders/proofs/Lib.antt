@@ -1,0 +1,2 @@
+pub mod WordBases
+pub mod WordLemmas
