@@ -13,14 +13,15 @@ use Rattle.dna_items.specs.declared.items.PatItem.{PatItem}
 use Rattle.dna_items.specs.declared.items.PatItem.TheVariants.{Base as Literal, Skip, Search, GroupStart, GroupStop}
 use Rattle.dna_items.specs.declared.items.TplItem.{TplItem}
 use Rattle.dna_items.specs.declared.items.TplItem.TheVariants.{Base as TplLiteral, Group, Len}
-use Rattle.dna_reader.specs.CodeLaws.{ReadsPair}
 use Rattle.dna_reader.specs.Codes.{pair_code}
+use Rattle.dna_reader.specs.Pairs.{PatternRunsOut}
 use Rattle.dna_reader.specs.Tables.{pattern_table}
 use Rattle.dna_reader.proofs.CodeLemmas.{pair_code_is_read}
+use Rattle.dna_reader.proofs.PairLemmas.{pattern_without_rna}
 use Rattle.dna_reader.proofs.ReadableLemmas.{only_readable_is_read}
 use Rattle.dna_reader.proofs.ReadingLemmas.{reads_none}
 use Rattle.dna_reader.proofs.TableLemmas.{pattern_fits}
-use Rattle.listing.specs.Lists.{NoPattern, PairStands, ListsFrom, pair_line, last_line}
+use Rattle.listing.specs.Lists.{ListsFrom, pair_line, last_line}
 use Rattle.listing.specs.Texts.{number_text, letters_text, pattern_item_text, template_item_text, pattern_text, template_text, pair_text}
 use Rattle.listing.proofs.TextLemmas.{small_text}
 use Rattle.assembler.specs.Answers.{Pair, AreTexts, pairs_code, ReadsPairs}
@@ -29,9 +30,6 @@ use Rattle.assembler.specs.Pairs.{HasSmallSkip, HasSmallNumbers, IsPair}
 use Rattle.assembler.proofs.AnswerLemmas.{texts_are_read}
 
 -- a listing shows the lines
-
-pub stands_of : (d rest : List Base) (pair : Pair) → ReadsPair d pair.0 pair.1 rest → PairStands d pair.0 pair.1 rest
-stands_of d rest pair r = record { pattern_rna = []; template_rna = []; middle = r.middle; reads_pattern = r.reads_pattern; reads_template = r.reads_template }
 
 line_shown : (len place : ℕ) (line : List ℕ) (pair : Pair) (left : List Base) → IsPair line pair.0 pair.1 → place + length left ≡ len
     → number_text place ++ (codes " " ++ (line ++ codes "\n")) ≡ pair_line (len - length left) pair.0 pair.1
@@ -43,7 +41,7 @@ lists_lines : (len place count : ℕ) (all : List (List ℕ)) (pairs : List Pair
 lists_lines len place zero all pairs texts whole = refl
 lists_lines len place (suc count) [] [] texts whole =
     let here : place ≡ len - 0 = omega arith in
-    inl (NoPattern [] (reads_none pattern_table pattern_fits 0 [] refl), ap last_line here)
+    inl (([], PatternRunsOut (reads_none pattern_table pattern_fits 0 [] refl)), ap last_line here)
 lists_lines len place (suc count) [] (pair ∷ pairs) texts whole = absurd texts
 lists_lines len place (suc count) (line ∷ all) [] texts whole = absurd texts
 lists_lines len place (suc count) (line ∷ all) (pair ∷ pairs) texts whole =
@@ -56,7 +54,7 @@ lists_lines len place (suc count) (line ∷ all) (pair ∷ pairs) texts whole =
       pair.1,
       rest,
       shown_from count next all pairs,
-      stands_of (code ++ rest) rest pair (pair_code_is_read pair.0 pair.1 rest texts.1),
+      ([], pair_code_is_read pair.0 pair.1 rest texts.1),
       behind,
       ap (λ l. l ++ shown_from count next all pairs) (line_shown len place line pair (code ++ rest) texts.0 whole),
     )
@@ -130,7 +128,7 @@ texts_of : (d : List Base) (pairs : List Pair) (rest : List Base) → ReadsPairs
 texts_of d [] rest reads small = tt
 texts_of d (pair ∷ pairs) rest reads small = (
   record { text = refl; small_pattern = small.0.0; small_template = small.0.1 },
-  only_readable_is_read d pair.0 reads.1.middle reads.1.reads_pattern,
+  only_readable_is_read d pair.0 reads.1.middle (pattern_without_rna d pair.0 pair.1 reads.0 reads.1),
   texts_of reads.0 pairs rest reads.2 small.1,
 )
 

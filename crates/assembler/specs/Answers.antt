@@ -4,8 +4,8 @@ use Rattle.fuun_base.specs.declared.letters.Base.{Base}
 use Rattle.fuun_base.specs.Lines.{lines}
 use Rattle.dna_items.specs.declared.items.PatItem.{PatItem}
 use Rattle.dna_items.specs.declared.items.TplItem.{TplItem}
-use Rattle.dna_reader.specs.CodeLaws.{ReadsPair}
 use Rattle.dna_reader.specs.Codes.{pair_code, IsReadable}
+use Rattle.dna_reader.specs.Pairs.{PairStands}
 use Rattle.assembler.specs.declared.assembling.AsmError.{AsmError}
 use Rattle.assembler.specs.declared.assembling.AsmError.TheVariants.{BadText, Unreadable, NoMemory}
 use Rattle.assembler.specs.Pairs.{IsPair, IsNoPair, IsUnreadable}
@@ -28,7 +28,7 @@ pairs_code pairs = flat_map (λ pair. pair_code pair.0 pair.1) pairs
 -- a DNA is read as pairs, one behind the other and without RNA, and leaves the rest
 abbrev pub ReadsPairs : List Base → List Pair → List Base → Type 0
 ReadsPairs d [] rest = d ≡ rest
-ReadsPairs d (pair ∷ pairs) rest = (middle : List Base) × ReadsPair d pair.0 pair.1 middle × ReadsPairs middle pairs rest
+ReadsPairs d (pair ∷ pairs) rest = (middle : List Base) × PairStands d pair.0 pair.1 [] middle × ReadsPairs middle pairs rest
 
 -- the lines before the one of this number, counted from 1, are taken, and it is refused for this reason
 pub record IsRefusedAt (Why : List ℕ → Type 0) (all : List (List ℕ)) (number : ℕ) : Type 0 where

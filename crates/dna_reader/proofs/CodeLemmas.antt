@@ -208,8 +208,11 @@ pair_before a b rest = append_assoc a (end_code ++ (b ++ end_code)) rest ∙ ap 
 
 pub pair_code_is_read : PairCodeIsRead
 pair_code_is_read pattern template rest is = record {
+  pattern_rna = [];
+  template_rna = [];
   middle = template_code template ++ (end_code ++ rest);
   reads_pattern = subst (λ l. ReadsFrom pattern_table 0 l (Read pattern [] (template_code template ++ (end_code ++ rest)))) (sym (pair_before (pattern_code pattern) (template_code template) rest))
       (pattern_code_is_read pattern (template_code template ++ (end_code ++ rest)) is);
   reads_template = template_code_is_read template rest;
+  whole = refl;
 }

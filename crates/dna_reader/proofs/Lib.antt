@@ -9,6 +9,7 @@ pub mod HeldLemmas
 pub mod PieceLemmas
 pub mod StepLemmas
 pub mod EndLemmas
+pub mod PairLemmas
 pub mod CodeLemmas
 pub mod ReadableLemmas
 pub mod LineLemmas

@@ -6,6 +6,7 @@ use Rattle.dna_items.specs.declared.items.PatItem.{PatItem}
 use Rattle.dna_items.specs.declared.items.TplItem.{TplItem}
 use Rattle.dna_reader.specs.Codes.{end_code, pattern_code, template_code, pair_code, IsReadable}
 use Rattle.dna_reader.specs.Numeral.{numeral}
+use Rattle.dna_reader.specs.Pairs.{PairStands}
 use Rattle.dna_reader.specs.Reading.{Read}
 use Rattle.dna_reader.specs.Tables.{ReadsPattern, ReadsTemplate}
 
@@ -27,13 +28,8 @@ OnlyReadableIsRead = (d : List Base) (items : List PatItem) (rest : List Base) �
 abbrev pub TemplateCodeIsRead : Type 0
 TemplateCodeIsRead = (items : List TplItem) (rest : List Base) → ReadsTemplate (template_code items ++ (end_code ++ rest)) (Read items [] rest)
 
--- the code of a pair is read as its pattern and then as its template
-pub record ReadsPair (d : List Base) (pattern : List PatItem) (template : List TplItem) (rest : List Base) : Type 0 where
-  pub middle : List Base
-  pub reads_pattern : ReadsPattern d (Read pattern [] middle)
-  pub reads_template : ReadsTemplate middle (Read template [] rest)
-
+-- the code of a pair is read as the pair, without RNA, and leaves what follows
 abbrev pub PairCodeIsRead : Type 0
 PairCodeIsRead =
     (pattern : List PatItem) (template : List TplItem) (rest : List Base)
-    → IsReadable pattern → ReadsPair (pair_code pattern template ++ rest) pattern template rest
+    → IsReadable pattern → PairStands (pair_code pattern template ++ rest) pattern template [] rest

@@ -4,6 +4,7 @@ pub mod Piece
 pub mod Reading
 pub mod Tables
 pub mod Taking
+pub mod Pairs
 pub mod ReadingLaws
 pub mod View
 pub mod Window

@@ -4,11 +4,13 @@ use Rattle.std.specs.Option.{option_map}
 use Rattle.fuun_base.specs.declared.letters.Base.{Base}
 use Rattle.fuun_base.specs.declared.letters.Base.TheVariants.{I, C, F, P}
 use Rattle.dna_items.specs.declared.items.PatItem.{PatItem}
+use Rattle.dna_items.specs.declared.items.TplItem.{TplItem}
 use Rattle.dna_items.specs.Balance.{IsBalanced}
 use Rattle.dna_reader.specs.Numeral.{numeral}
 use Rattle.dna_reader.specs.Constants.{IsConstants, consts}
 use Rattle.dna_reader.specs.Piece.{Piece}
 use Rattle.dna_reader.specs.Reading.{Table, Cut, IsCutting, Reading, Read, RanOut, ReadsFrom}
+use Rattle.dna_reader.specs.Pairs.{PairStands, PairRunsOut, PairGives}
 use Rattle.dna_reader.specs.Tables.{ReadsPattern}
 
 -- each piece of the table takes one base at least, and none that is not there
@@ -47,6 +49,31 @@ HasShortRna {Item} table = (groups : ℕ) (d : List Base) (rna : List (List Base
 -- the items of a pattern that was read to its end are balanced
 abbrev pub PatternsAreBalanced : Type 0
 PatternsAreBalanced = (d : List Base) (items : List PatItem) (rna : List (List Base)) (rest : List Base) → ReadsPattern d (Read items rna rest) → IsBalanced items
+
+-- each DNA is read as a pair, or the pair runs out
+abbrev pub HasPair : Type 0
+HasPair = (d : List Base) → (rna : List (List Base)) × PairGives d rna
+
+-- two pairs are the same, and so are their RNA and what they leave
+pub record IsSamePair (p q : List PatItem) (s t : List TplItem) (x y : List (List Base)) (a b : List Base) : Type 0 where
+  pub pattern : p ≡ q
+  pub template : s ≡ t
+  pub rna : x ≡ y
+  pub rest : a ≡ b
+
+-- a DNA is read as one pair only
+abbrev pub HasOnePair : Type 0
+HasOnePair =
+    (d : List Base) (p q : List PatItem) (s t : List TplItem) (x y : List (List Base)) (a b : List Base)
+    → PairStands d p s x a → PairStands d q t y b → IsSamePair p q s t x y a b
+
+-- a pair that is read to its end does not run out
+abbrev pub PairsDoNotRunOut : Type 0
+PairsDoNotRunOut = (d : List Base) (pattern : List PatItem) (template : List TplItem) (x y : List (List Base)) (rest : List Base) → PairStands d pattern template x rest → PairRunsOut d y → ⊥
+
+-- and in either case there is only one RNA
+abbrev pub PairGivesOnce : Type 0
+PairGivesOnce = (d : List Base) (x y : List (List Base)) → PairGives d x → PairGives d y → x ≡ y
 
 -- consts gives the longest list whose quote begins the DNA
 abbrev pub ConstantsAreLongest : Type 0

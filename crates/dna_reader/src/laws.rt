@@ -1,7 +1,7 @@
 //! What holds of the definitions. Each call does nothing: its clause is the law.
 ghost use Rattle.dna_reader.specs.CodeLaws.{NumberIsRead, PatternCodeIsRead, OnlyReadableIsRead, TemplateCodeIsRead, PairCodeIsRead};
 ghost use Rattle.dna_reader.specs.CommandLaws.{GivesCommands, LinesAreGood, LinesAreRead};
-ghost use Rattle.dna_reader.specs.ReadingLaws.{HasCutting, HasOneCutting, HasReading, HasOneReading, HasShortReadings, HasShortRna, PatternsAreBalanced, ConstantsAreLongest, ConstantsAreOne, NumeralByDigits};
+ghost use Rattle.dna_reader.specs.ReadingLaws.{HasCutting, HasOneCutting, HasReading, HasOneReading, HasShortReadings, HasShortRna, PatternsAreBalanced, HasPair, HasOnePair, PairsDoNotRunOut, PairGivesOnce, ConstantsAreLongest, ConstantsAreOne, NumeralByDigits};
 ghost use Rattle.dna_reader.specs.RnaLines.{PartIsFront};
 ghost use Rattle.dna_reader.specs.Tables.{pattern_table, template_table};
 ghost use Rattle.dna_reader.specs.Worked.{PatternWorked, TemplateWorked, SearchWorked, CommandWorked, ShortCommandWorked, NoNumeralWorked, OpenGroupWorked, PairWorked, SearchPairWorked};
@@ -33,6 +33,14 @@ pub fn short_readings()
 /// The items of a pattern that was read to its end are balanced.
 pub fn balanced_patterns()
     ensures { PatternsAreBalanced }
+{}
+
+/// Each DNA is read as a pair or runs out, never both, and in one way, with one RNA.
+pub fn one_pair()
+    ensures made { HasPair }
+    ensures once { HasOnePair }
+    ensures apart { PairsDoNotRunOut }
+    ensures rna_once { PairGivesOnce }
 {}
 
 /// The constants that begin a DNA are the longest list whose quote begins it, and the only such list.

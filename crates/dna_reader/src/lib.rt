@@ -5,6 +5,7 @@ mod discard;
 mod heads;
 pub mod laws;
 mod numerals;
+mod pairs;
 mod pieces;
 mod reading;
 mod rna_lines;
@@ -13,6 +14,7 @@ mod window;
 
 pub use discard::Discard;
 pub use numerals::{read_consts, read_numeral};
+pub use pairs::{Pair, read_pair};
 pub use reading::{ReadingError, read_pattern, read_template};
 pub use rna_lines::{RnaLines, put_line};
 pub use takers::{RnaTaker, TakeError};

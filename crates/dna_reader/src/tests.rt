@@ -1,8 +1,8 @@
 ghost use Rattle.std.specs.Prelude.{◌≡◌, ◌<◌, ◌≤◌, length};
 
 use crate::{
-    Discard, ReadingError, RnaLines, RnaTaker, read_consts, read_numeral, read_pattern,
-    read_template,
+    Discard, Pair, ReadingError, RnaLines, RnaTaker, read_consts, read_numeral, read_pair,
+    read_pattern, read_template,
 };
 use dna_items::{BIG, PatItem, TplItem};
 use fuun_base::{CommandList, Steps, read_dna};
@@ -98,6 +98,9 @@ fn prefixes<L: Ledger>(rt: &impl Abort, alloc: Global, blank: Blank) -> Result<(
             let want = if count < 26 { "finish" } else { "PI{0,0} 26" };
             assert_eq!(rt; template.as_str(), want, "at {count}");
         }
+        let pair = read_pair(alloc, &dna, 0, &mut Discard::new());
+        let both = matches!(pair, Ok(Pair { next: 26, .. }));
+        assert_eq!(rt; both, count >= 26, "at {count}");
     }
     Ok(())
 }

@@ -1,8 +1,9 @@
 -- DNA of commands is read as these commands, and then used up.
-use Rattle.std.proofs.Common.{◌≡◌, ℕ, ◌+◌, inl, false, Some, List, [], ◌∷◌, ◌++◌, length, take, drop, refl, sym, ap, ◌∙◌, subst, arith, append-nil}
+use Rattle.std.proofs.Common.{◌≡◌, ℕ, ◌+◌, false, Some, List, [], ◌∷◌, ◌++◌, length, take, drop, refl, sym, ap, ◌∙◌, subst, arith, append-nil}
 use Rattle.std.proofs.Math.Seq.{take-append_seam, drop-append_seam}
 use Rattle.fuun_base.specs.declared.letters.Base.{Base}
 use Rattle.dna_items.specs.declared.items.PatItem.{PatItem}
+use Rattle.dna_reader.specs.Pairs.{PatternRunsOut}
 use Rattle.dna_reader.specs.Piece.{GivesCommand, Piece, pattern_piece}
 use Rattle.dna_reader.specs.Reading.{RanOut, ReadsFrom}
 use Rattle.dna_reader.specs.Tables.{ReadsPattern, pattern_table}
@@ -39,7 +40,7 @@ drawing_attempt commands = record { pattern = []; template = []; rna = commands;
 
 is_attempt : (commands : List (List Base)) (limit : ℕ) → AreWhole commands → IsAttempt (codes_of commands) limit (drawing_attempt commands)
 is_attempt commands limit whole = record {
-  ran_out = inl (record { pattern = codes_are_read commands whole });
+  ran_out = PatternRunsOut (codes_are_read commands whole);
   no_pattern = refl;
   no_template = refl;
 }

@@ -1,29 +1,22 @@
 -- Each DNA has exactly one attempt.
-use Rattle.std.proofs.Common.{◌≡◌, ℕ, ◌⊎◌, inl, inr, List, [], ◌++◌, length, arith, refl, sym, ap, subst, ◌∙◌, append-nil}
+use Rattle.std.proofs.Common.{◌≡◌, ℕ, inl, inr, List, [], length, arith, refl, sym, ap, subst, ◌∙◌}
 use Rattle.std.proofs.lemmas.Bool.{cases_lt}
 use Rattle.fuun_base.specs.declared.letters.Base.{Base}
 use Rattle.dna_items.specs.declared.items.PatItem.{PatItem}
 use Rattle.dna_items.specs.declared.items.TplItem.{TplItem}
-use Rattle.dna_reader.specs.Reading.{Reading, Read, RanOut, rna_in}
-use Rattle.dna_reader.specs.Tables.{pattern_table, template_table, ReadsPattern, ReadsTemplate}
-use Rattle.dna_reader.proofs.ReadingLemmas.{has_reading, one_reading}
-use Rattle.dna_reader.proofs.TableLemmas.{pattern_fits, template_fits, patterns_are_balanced}
+use Rattle.dna_reader.specs.Pairs.{PairStands, PairRunsOut, PairGives, ByPair, ByRunningOut}
+use Rattle.dna_reader.specs.ReadingLaws.{IsSamePair}
+use Rattle.dna_reader.proofs.PairLemmas.{has_pair, one_pair, pairs_do_not_run_out, runs_out_once}
+use Rattle.dna_reader.proofs.TableLemmas.{patterns_are_balanced}
 use Rattle.matcher.specs.Match.{IsMatch, last_place}
 use Rattle.matcher.specs.Groups.{AreGroups}
 use Rattle.replacer.specs.Replacement.{texts_of, replaced}
-use Rattle.exec_loop.specs.Attempt.{Ending, Matched, NoMatch, TooLong, Finished, Attempt, ReadsBoth, PatternRanOut, TemplateRanOut, ReadingRanOut, FindsNone, Rewrites, EndsBy, IsAttempt}
+use Rattle.exec_loop.specs.Attempt.{Ending, Matched, NoMatch, TooLong, Finished, Attempt, ReadingRanOut, FindsNone, Rewrites, EndsBy, IsAttempt}
 use Rattle.matcher.proofs.Matches.{match_is_one, match_or_none}
 use Rattle.matcher.proofs.Grouping.{groups_exist}
 use Rattle.matcher.proofs.OpenGroups.{one_list_of_groups}
 
 -- there is an attempt
-
--- an attempt whose RNA begins so
-pub record AttemptWith (d : List Base) (limit : ℕ) (rna : List (List Base)) : Type 0 where
-  pub attempt : Attempt
-  pub is : IsAttempt d limit attempt
-  pub more : List (List Base)
-  pub begins : attempt.rna ≡ rna ++ more
 
 -- an attempt with this RNA
 pub record AttemptOf (d : List Base) (limit : ℕ) (rna : List (List Base)) : Type 0 where
@@ -31,126 +24,57 @@ pub record AttemptOf (d : List Base) (limit : ℕ) (rna : List (List Base)) : Ty
   pub is : IsAttempt d limit attempt
   pub gives : attempt.rna ≡ rna
 
-both_read : (d : List Base) (pattern : List PatItem) (template : List TplItem) (pattern_rna template_rna : List (List Base)) (middle rest : List Base) (ending : Ending)
-    → ReadsPattern d (Read pattern pattern_rna middle) → ReadsTemplate middle (Read template template_rna rest)
-    → ReadsBoth d (record { pattern = pattern; template = template; rna = pattern_rna ++ template_rna; ending = ending }) rest
-both_read d pattern template pattern_rna template_rna middle rest ending reads_pattern reads_template = record {
-  pattern_rna = pattern_rna;
-  template_rna = template_rna;
-  middle = middle;
-  pattern = reads_pattern;
-  template = reads_template;
-  rna = refl;
-}
+module _ (d : List Base) (limit : ℕ) (pattern : List PatItem) (template : List TplItem) (rna : List (List Base)) (rest : List Base) (stands : PairStands d pattern template rna rest) where
+  attempt_matched : (places : List ℕ) → IsMatch rest pattern places → (groups : List (ℕ × ℕ)) → AreGroups pattern places groups → AttemptOf d limit rna
+  attempt_matched places match groups grouped =
+      let next : List Base = replaced rest template groups (last_place places) in
+      elim (cases_lt limit (length next)) [
+        | inl above ↦ record {
+          attempt = record { pattern = pattern; template = template; rna = rna; ending = TooLong };
+          is = (
+            last_place places,
+            next,
+            record { rest = rest; places = places; groups = groups; reads = stands; match = match; stops = refl; grouped = grouped; puts = refl },
+            above,
+          );
+          gives = refl;
+        }
+        | inr within ↦ record {
+          attempt = record { pattern = pattern; template = template; rna = rna; ending = Matched (last_place places) next };
+          is = (record { rest = rest; places = places; groups = groups; reads = stands; match = match; stops = refl; grouped = grouped; puts = refl }, within);
+          gives = refl;
+        }
+      ]
 
-attempt_matched : (d : List Base) (limit : ℕ) (pattern : List PatItem) (template : List TplItem) (pattern_rna template_rna : List (List Base)) (middle rest : List Base)
-    → ReadsPattern d (Read pattern pattern_rna middle) → ReadsTemplate middle (Read template template_rna rest)
-    → (places : List ℕ) → IsMatch rest pattern places → (groups : List (ℕ × ℕ)) → AreGroups pattern places groups
-    → AttemptOf d limit (pattern_rna ++ template_rna)
-attempt_matched d limit pattern template pattern_rna template_rna middle rest reads_pattern reads_template places match groups grouped =
-    let next : List Base = replaced rest template groups (last_place places) in
-    elim (cases_lt limit (length next)) [
-      | inl above ↦ record {
-        attempt = record { pattern = pattern; template = template; rna = pattern_rna ++ template_rna; ending = TooLong };
-        is = (
-          last_place places,
-          next,
-          record {
-            rest = rest;
-            places = places;
-            groups = groups;
-            reads = both_read d pattern template pattern_rna template_rna middle rest TooLong reads_pattern reads_template;
-            match = match;
-            stops = refl;
-            grouped = grouped;
-            puts = refl;
-          },
-          above,
-        );
-        gives = refl;
-      }
-      | inr within ↦ record {
-        attempt = record { pattern = pattern; template = template; rna = pattern_rna ++ template_rna; ending = Matched (last_place places) next };
-        is = (
-          record {
-            rest = rest;
-            places = places;
-            groups = groups;
-            reads = both_read d pattern template pattern_rna template_rna middle rest (Matched (last_place places) next) reads_pattern reads_template;
-            match = match;
-            stops = refl;
-            grouped = grouped;
-            puts = refl;
-          },
-          within,
-        );
-        gives = refl;
-      }
-    ]
+  attempt_read : AttemptOf d limit rna
+  attempt_read =
+      elim (match_or_none rest pattern) [
+        | inl found ↦
+            let grouped : (groups : List (ℕ × ℕ)) × AreGroups pattern found.0 groups =
+            groups_exist pattern found.0 (patterns_are_balanced d pattern stands.pattern_rna stands.middle stands.reads_pattern) in
+            attempt_matched found.0 found.1 grouped.0 grouped.1
+        | inr none ↦ record {
+          attempt = record { pattern = pattern; template = template; rna = rna; ending = NoMatch rest };
+          is = record { reads = stands; none = none };
+          gives = refl;
+        }
+      ]
 
-pub attempt_read : (d : List Base) (limit : ℕ) (pattern : List PatItem) (template : List TplItem) (pattern_rna template_rna : List (List Base)) (middle rest : List Base)
-    → ReadsPattern d (Read pattern pattern_rna middle) → ReadsTemplate middle (Read template template_rna rest)
-    → AttemptOf d limit (pattern_rna ++ template_rna)
-attempt_read d limit pattern template pattern_rna template_rna middle rest reads_pattern reads_template =
-    elim (match_or_none rest pattern) [
-      | inl found ↦
-          let grouped : (groups : List (ℕ × ℕ)) × AreGroups pattern found.0 groups = groups_exist pattern found.0 (patterns_are_balanced d pattern pattern_rna middle reads_pattern) in
-          attempt_matched d limit pattern template pattern_rna template_rna middle rest reads_pattern reads_template found.0 found.1 grouped.0 grouped.1
-      | inr none ↦ record {
-        attempt = record { pattern = pattern; template = template; rna = pattern_rna ++ template_rna; ending = NoMatch rest };
-        is = record { reads = both_read d pattern template pattern_rna template_rna middle rest (NoMatch rest) reads_pattern reads_template; none = none };
-        gives = refl;
-      }
-    ]
-
-pub attempt_of_template : (d : List Base) (limit : ℕ) (pattern : List PatItem) (pattern_rna : List (List Base)) (middle : List Base) (template : Reading TplItem)
-    → ReadsPattern d (Read pattern pattern_rna middle) → ReadsTemplate middle template
-    → AttemptOf d limit (pattern_rna ++ rna_in template)
-attempt_of_template d limit pattern pattern_rna middle (Read items template_rna rest) reads_pattern reads_template =
-    attempt_read d limit pattern items pattern_rna template_rna middle rest reads_pattern reads_template
-attempt_of_template d limit pattern pattern_rna middle (RanOut template_rna) reads_pattern reads_template = record {
-  attempt = record { pattern = []; template = []; rna = pattern_rna ++ template_rna; ending = Finished };
-  is = record {
-    ran_out = inr (record { items = pattern; pattern_rna = pattern_rna; template_rna = template_rna; middle = middle; pattern = reads_pattern; template = reads_template; whole = refl });
-    no_pattern = refl;
-    no_template = refl;
-  };
+pub attempt_of_pair : (d : List Base) (limit : ℕ) (rna : List (List Base)) → PairGives d rna → AttemptOf d limit rna
+attempt_of_pair d limit rna (ByPair pattern template rest stands) = attempt_read d limit pattern template rna rest stands
+attempt_of_pair d limit rna (ByRunningOut ran_out) = record {
+  attempt = record { pattern = []; template = []; rna = rna; ending = Finished };
+  is = record { ran_out = ran_out; no_pattern = refl; no_template = refl };
   gives = refl;
-}
-
-template_of : (d : List Base) → (reading : Reading TplItem) × ReadsTemplate d reading
-template_of d = has_reading template_table template_fits 0 d
-
-pattern_of : (d : List Base) → (reading : Reading PatItem) × ReadsPattern d reading
-pattern_of d = has_reading pattern_table pattern_fits 0 d
-
-pub attempt_of_pattern : (d : List Base) (limit : ℕ) (pattern : Reading PatItem) → ReadsPattern d pattern → AttemptWith d limit (rna_in pattern)
-attempt_of_pattern d limit (Read items pattern_rna middle) reads =
-    let template : (reading : Reading TplItem) × ReadsTemplate middle reading = template_of middle in
-    let made : AttemptOf d limit (pattern_rna ++ rna_in template.0) = attempt_of_template d limit items pattern_rna middle template.0 reads template.1 in
-    record { attempt = made.attempt; is = made.is; more = rna_in template.0; begins = made.gives }
-attempt_of_pattern d limit (RanOut pattern_rna) reads = record {
-  attempt = record { pattern = []; template = []; rna = pattern_rna; ending = Finished };
-  is = record { ran_out = inl (record { pattern = reads }); no_pattern = refl; no_template = refl };
-  more = [];
-  begins = sym (append-nil pattern_rna);
 }
 
 pub has_attempt : (d : List Base) (limit : ℕ) → (attempt : Attempt) × IsAttempt d limit attempt
 has_attempt d limit =
-    let pattern : (reading : Reading PatItem) × ReadsPattern d reading = pattern_of d in
-    let made : AttemptWith d limit (rna_in pattern.0) = attempt_of_pattern d limit pattern.0 pattern.1 in
+    let pair : (rna : List (List Base)) × PairGives d rna = has_pair d in
+    let made : AttemptOf d limit pair.0 = attempt_of_pair d limit pair.0 pair.1 in
     (made.attempt, made.is)
 
 -- and only one
-
-items_in : {Item : Type 0} → Reading Item → List Item
-items_in (Read items rna rest) = items
-items_in (RanOut rna) = []
-
-rest_in : {Item : Type 0} → Reading Item → List Base
-rest_in (Read items rna rest) = rest
-rest_in (RanOut rna) = []
 
 -- two attempts read and gave the same
 pub record IsSame (a b : Attempt) : Type 0 where
@@ -158,70 +82,24 @@ pub record IsSame (a b : Attempt) : Type 0 where
   pub template : a.template ≡ b.template
   pub rna : a.rna ≡ b.rna
 
-record IsSameReading {Item : Type 0} (items more : List Item) (rna rna' : List (List Base)) (rest rest' : List Base) : Type 0 where
-  same_items : items ≡ more
-  same_rna : rna ≡ rna'
-  same_rest : rest ≡ rest'
-
-same_reading : {Item : Type 0} (items more : List Item) (rna rna' : List (List Base)) (rest rest' : List Base) → Read items rna rest ≡ Read more rna' rest' → IsSameReading items more rna rna' rest rest'
-unfolding items_in rest_in
-same_reading items more rna rna' rest rest' e = record { same_items = ap items_in e; same_rna = ap rna_in e; same_rest = ap rest_in e }
-
-read_not_ran_out : {Item : Type 0} (items : List Item) (rna rna' : List (List Base)) (rest : List Base) → Read items rna rest ≡ RanOut rna' → ⊥
-read_not_ran_out items rna rna' rest e = cc
-
-pattern_once : (d : List Base) (a b : Reading PatItem) → ReadsPattern d a → ReadsPattern d b → a ≡ b
-pattern_once d a b x y = one_reading pattern_table 0 d a b x y
-
-template_once : (d : List Base) (a b : Reading TplItem) → ReadsTemplate d a → ReadsTemplate d b → a ≡ b
-template_once d a b x y = one_reading template_table 0 d a b x y
-
 record IsSameBoth (a b : Attempt) (rest rest' : List Base) : Type 0 where
   same : IsSame a b
   same_rest : rest ≡ rest'
 
-both_is_one : (d : List Base) (a b : Attempt) (rest rest' : List Base) → ReadsBoth d a rest → ReadsBoth d b rest' → IsSameBoth a b rest rest'
+both_is_one : (d : List Base) (a b : Attempt) (rest rest' : List Base) → PairStands d a.pattern a.template a.rna rest → PairStands d b.pattern b.template b.rna rest' → IsSameBoth a b rest rest'
 both_is_one d a b rest rest' x y =
-    let patterns : IsSameReading a.pattern b.pattern x.pattern_rna y.pattern_rna x.middle y.middle =
-    same_reading a.pattern b.pattern x.pattern_rna y.pattern_rna x.middle y.middle (pattern_once d (Read a.pattern x.pattern_rna x.middle) (Read b.pattern y.pattern_rna y.middle) x.pattern y.pattern) in
-    let moved : ReadsTemplate x.middle (Read b.template y.template_rna rest') = subst (λ m. ReadsTemplate m (Read b.template y.template_rna rest')) (sym patterns.same_rest) y.template in
-    let templates : IsSameReading a.template b.template x.template_rna y.template_rna rest rest' =
-    same_reading a.template b.template x.template_rna y.template_rna rest rest' (template_once x.middle (Read a.template x.template_rna rest) (Read b.template y.template_rna rest') x.template moved) in
-    record {
-      same = record {
-        pattern = patterns.same_items;
-        template = templates.same_items;
-        rna = x.rna ∙ ap (λ l. l ++ x.template_rna) patterns.same_rna ∙ ap (λ l. y.pattern_rna ++ l) templates.same_rna ∙ sym y.rna;
-      };
-      same_rest = templates.same_rest;
-    }
+    let pair : IsSamePair a.pattern b.pattern a.template b.template a.rna b.rna rest rest' = one_pair d a.pattern b.pattern a.template b.template a.rna b.rna rest rest' x y in
+    record { same = record { pattern = pair.pattern; template = pair.template; rna = pair.rna }; same_rest = pair.rest }
 
 -- no reading both runs out and comes to its end
-both_or_ran_out : (d : List Base) (a b : Attempt) (rest : List Base) → ReadsBoth d a rest → PatternRanOut d b.rna ⊎ TemplateRanOut d b.rna → ⊥
-both_or_ran_out d a b rest x (inl y) =
-    read_not_ran_out a.pattern x.pattern_rna b.rna x.middle (pattern_once d (Read a.pattern x.pattern_rna x.middle) (RanOut b.rna) x.pattern y.pattern)
-both_or_ran_out d a b rest x (inr y) =
-    let patterns : IsSameReading a.pattern y.items x.pattern_rna y.pattern_rna x.middle y.middle =
-    same_reading a.pattern y.items x.pattern_rna y.pattern_rna x.middle y.middle (pattern_once d (Read a.pattern x.pattern_rna x.middle) (Read y.items y.pattern_rna y.middle) x.pattern y.pattern) in
-    let moved : ReadsTemplate x.middle (RanOut y.template_rna) = subst (λ m. ReadsTemplate m (RanOut y.template_rna)) (sym patterns.same_rest) y.template in
-    read_not_ran_out a.template x.template_rna y.template_rna rest (template_once x.middle (Read a.template x.template_rna rest) (RanOut y.template_rna) x.template moved)
-
-ran_out_rna : (d : List Base) (a b : List (List Base)) → PatternRanOut d a ⊎ TemplateRanOut d a → PatternRanOut d b ⊎ TemplateRanOut d b → a ≡ b
-ran_out_rna d a b (inl x) (inl y) = ap rna_in (pattern_once d (RanOut a) (RanOut b) x.pattern y.pattern)
-ran_out_rna d a b (inl x) (inr y) = absurd (read_not_ran_out y.items y.pattern_rna a y.middle (pattern_once d (Read y.items y.pattern_rna y.middle) (RanOut a) y.pattern x.pattern))
-ran_out_rna d a b (inr x) (inl y) = absurd (read_not_ran_out x.items x.pattern_rna b x.middle (pattern_once d (Read x.items x.pattern_rna x.middle) (RanOut b) x.pattern y.pattern))
-ran_out_rna d a b (inr x) (inr y) =
-    let patterns : IsSameReading x.items y.items x.pattern_rna y.pattern_rna x.middle y.middle =
-    same_reading x.items y.items x.pattern_rna y.pattern_rna x.middle y.middle (pattern_once d (Read x.items x.pattern_rna x.middle) (Read y.items y.pattern_rna y.middle) x.pattern y.pattern) in
-    let moved : ReadsTemplate x.middle (RanOut y.template_rna) = subst (λ m. ReadsTemplate m (RanOut y.template_rna)) (sym patterns.same_rest) y.template in
-    let templates : x.template_rna ≡ y.template_rna = ap rna_in (template_once x.middle (RanOut x.template_rna) (RanOut y.template_rna) x.template moved) in
-    x.whole ∙ ap (λ l. l ++ x.template_rna) patterns.same_rna ∙ ap (λ l. y.pattern_rna ++ l) templates ∙ sym y.whole
+both_or_ran_out : (d : List Base) (a b : Attempt) (rest : List Base) → PairStands d a.pattern a.template a.rna rest → PairRunsOut d b.rna → ⊥
+both_or_ran_out d a b rest x y = pairs_do_not_run_out d a.pattern a.template a.rna b.rna rest x y
 
 ran_out_is_one : (d : List Base) (a b : Attempt) → ReadingRanOut d a → ReadingRanOut d b → IsSame a b
 ran_out_is_one d a b x y = record {
   pattern = x.no_pattern ∙ sym y.no_pattern;
   template = x.no_template ∙ sym y.no_template;
-  rna = ran_out_rna d a.rna b.rna x.ran_out y.ran_out;
+  rna = runs_out_once d a.rna b.rna x.ran_out y.ran_out;
 }
 
 record IsSameRewrite (a b : Attempt) (stop stop' : ℕ) (next next' : List Base) : Type 0 where

@@ -1,16 +1,17 @@
 -- Runs one behind the other, and what holds of all that a run gives.
-use Rattle.std.proofs.Common.{◌≡◌, ◌⊎◌, inl, inr, ℕ, ◌+◌, ◌≤◌, Some, List, [], ◌∷◌, ◌++◌, length, arith, refl, sym, ap, subst, ◌∙◌, append_assoc, length-append}
+use Rattle.std.proofs.Common.{◌≡◌, ℕ, ◌+◌, ◌≤◌, Some, List, [], ◌∷◌, ◌++◌, length, arith, refl, sym, ap, subst, ◌∙◌, append_assoc, length-append}
 use Rattle.std.specs.List.{AllByRecursion}
 use Rattle.std.proofs.lemmas.Option.{none-some, same_Some}
 use Rattle.fuun_base.specs.declared.letters.Base.{Base}
 use Rattle.dna_reader.specs.CommandLaws.{IsCommand}
+use Rattle.dna_reader.specs.Pairs.{PairStands, PairRunsOut, PatternRunsOut, TemplateRunsOut}
 use Rattle.dna_reader.specs.Reading.{Read, RanOut}
 use Rattle.dna_reader.specs.Tables.{pattern_table, template_table}
 use Rattle.dna_reader.proofs.CommandLemmas.{pattern_gives, template_gives}
 use Rattle.dna_reader.proofs.ReadingLemmas.{short_readings}
 use Rattle.exec_loop.specs.declared.machine.RunEnd.{RunEnd}
 use Rattle.exec_loop.specs.declared.machine.RunEnd.TheVariants.{Finished, Budget, TooLong}
-use Rattle.exec_loop.specs.Attempt.{Ending, Matched, NoMatch, TooLong as Overlong, Finished as Ended, Attempt, ReadsBoth, PatternRanOut, TemplateRanOut, EndsBy, next_dna}
+use Rattle.exec_loop.specs.Attempt.{Ending, Matched, NoMatch, TooLong as Overlong, Finished as Ended, Attempt, EndsBy, next_dna}
 use Rattle.exec_loop.specs.Laws.{end_behind, IsInParts, RunGoesOn, RunGivesCommands, RunStaysWithin}
 use Rattle.exec_loop.specs.Run.{Leads, rna_of, Run, SpendsBudget, StopsAt, RunsTo, IsRun}
 use Rattle.exec_loop.proofs.AttemptByAttempt.{rna_of_more}
@@ -82,20 +83,20 @@ both_commands : (x y : List (List Base)) → AllByRecursion IsCommand x → AllB
 both_commands [] y p q = q
 both_commands (command ∷ x) y p q = (p.0, both_commands x y p.1 q)
 
-reads_commands : (d : List Base) (attempt : Attempt) (rest : List Base) → ReadsBoth d attempt rest → AllByRecursion IsCommand attempt.rna
+reads_commands : (d : List Base) (attempt : Attempt) (rest : List Base) → PairStands d attempt.pattern attempt.template attempt.rna rest → AllByRecursion IsCommand attempt.rna
 reads_commands d attempt rest x =
-    subst (AllByRecursion IsCommand) (sym x.rna)
-    (both_commands x.pattern_rna x.template_rna
-    (pattern_gives 0 d (Read attempt.pattern x.pattern_rna x.middle) x.pattern)
-    (template_gives 0 x.middle (Read attempt.template x.template_rna rest) x.template))
-
-ran_out_commands : (d : List Base) (rna : List (List Base)) → PatternRanOut d rna ⊎ TemplateRanOut d rna → AllByRecursion IsCommand rna
-ran_out_commands d rna (inl x) = pattern_gives 0 d (RanOut rna) x.pattern
-ran_out_commands d rna (inr x) =
     subst (AllByRecursion IsCommand) (sym x.whole)
     (both_commands x.pattern_rna x.template_rna
-    (pattern_gives 0 d (Read x.items x.pattern_rna x.middle) x.pattern)
-    (template_gives 0 x.middle (RanOut x.template_rna) x.template))
+    (pattern_gives 0 d (Read attempt.pattern x.pattern_rna x.middle) x.reads_pattern)
+    (template_gives 0 x.middle (Read attempt.template x.template_rna rest) x.reads_template))
+
+ran_out_commands : (d : List Base) (rna : List (List Base)) → PairRunsOut d rna → AllByRecursion IsCommand rna
+ran_out_commands d rna (PatternRunsOut reads) = pattern_gives 0 d (RanOut rna) reads
+ran_out_commands d rna (TemplateRunsOut pattern pattern_rna template_rna middle reads runs_out whole) =
+    subst (AllByRecursion IsCommand) (sym whole)
+    (both_commands pattern_rna template_rna
+    (pattern_gives 0 d (Read pattern pattern_rna middle) reads)
+    (template_gives 0 middle (RanOut template_rna) runs_out))
 
 attempt_commands : (d : List Base) (limit : ℕ) (attempt : Attempt) (ending : Ending) → EndsBy d limit attempt ending → AllByRecursion IsCommand attempt.rna
 attempt_commands d limit attempt (Matched stop next) x = reads_commands d attempt x.0.rest x.0.reads
@@ -123,12 +124,12 @@ run_gives_commands limit budget d run is = run_commands limit budget d run run.e
 
 -- the DNA within the limit
 
-reads_shorten : (d : List Base) (attempt : Attempt) (rest : List Base) → ReadsBoth d attempt rest → length rest ≤ length d
+reads_shorten : (d : List Base) (attempt : Attempt) (rest : List Base) → PairStands d attempt.pattern attempt.template attempt.rna rest → length rest ≤ length d
 reads_shorten d attempt rest x =
     omega (
       arith,
-      short_readings pattern_table 0 d attempt.pattern x.pattern_rna x.middle x.pattern,
-      short_readings template_table 0 x.middle attempt.template x.template_rna rest x.template,
+      short_readings pattern_table 0 d attempt.pattern x.pattern_rna x.middle x.reads_pattern,
+      short_readings template_table 0 x.middle attempt.template x.template_rna rest x.reads_template,
     )
 
 next_within : (d : List Base) (limit : ℕ) (attempt : Attempt) (ending : Ending) (next : List Base) → EndsBy d limit attempt ending → next_dna ending ≡ Some next → length d ≤ limit → length next ≤ limit

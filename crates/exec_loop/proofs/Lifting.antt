@@ -1,13 +1,12 @@
 -- From items as they are held to the attempt.
-use Rattle.std.proofs.Common.{◌≡◌, ℕ, ◌+◌, ◌-◌, ◌^◌, ◌<◌, ◌≤◌, inl, inr, Option, Some, List, ◌++◌, length, drop, map, arith, refl, sym, ap, subst, ◌∙◌}
+use Rattle.std.proofs.Common.{◌≡◌, ℕ, ◌+◌, ◌-◌, ◌^◌, ◌<◌, ◌≤◌, inl, inr, Option, Some, List, length, drop, map, arith, refl, sym, ap, subst, ◌∙◌}
 use Rattle.std.specs.Prelude.{unwrap_or, slice_range}
 use Rattle.std.proofs.lemmas.List.{length-drop, length-map, length-append}
 use Rattle.fuun_base.specs.declared.letters.Base.{Base}
 use Rattle.dna_items.specs.declared.items.PatItem.{PatItem}
 use Rattle.dna_items.specs.declared.items.TplItem.{TplItem}
 use Rattle.dna_items.specs.Held.{held_template_item, held_pattern, held_template}
-use Rattle.dna_reader.specs.Reading.{Read}
-use Rattle.dna_reader.specs.Tables.{ReadsPattern, ReadsTemplate}
+use Rattle.dna_reader.specs.Pairs.{PairStands}
 use Rattle.matcher.specs.Match.{last_place}
 use Rattle.matcher.proofs.OpenGroups.{stops_most}
 use Rattle.matcher.specs.Groups.{AreGroups}
@@ -16,7 +15,7 @@ use Rattle.replacer.specs.Replacement.{replacement, texts_of, replaced}
 use Rattle.replacer.specs.Weight.{weight, quoted_bases}
 use Rattle.exec_loop.specs.declared.machine.Outcome.{Outcome}
 use Rattle.exec_loop.specs.declared.machine.Outcome.TheVariants as outcome
-use Rattle.exec_loop.specs.Attempt.{Ending, Matched, NoMatch, TooLong, Finished, Attempt, ReadsBoth, Rewrites, EndsBy, IsAttempt, next_dna}
+use Rattle.exec_loop.specs.Attempt.{Ending, Matched, NoMatch, TooLong, Finished, Attempt, Rewrites, EndsBy, IsAttempt, next_dna}
 use Rattle.exec_loop.specs.Made.{outcome_of, dna_behind}
 use Rattle.exec_loop.specs.Weights.{Weighs}
 use Rattle.exec_loop.specs.Rewriting.{ReplacesAt, ComesTo}
@@ -49,22 +48,10 @@ replaces_at d place pattern template stop groups next x puts =
       puts = puts ∙ ap (λ n. replaced d template groups n) back;
     }
 
-module _ (d : List Base) (items : List PatItem) (puts : List TplItem) (pattern_rna template_rna : List (List Base)) (middle : List Base) (place : ℕ)
-    (reads_pattern : ReadsPattern d (Read items pattern_rna middle)) (reads_template : ReadsTemplate middle (Read puts template_rna (drop place d)))
+module _ (d : List Base) (items : List PatItem) (puts : List TplItem) (rna : List (List Base)) (place : ℕ) (stands : PairStands d items puts rna (drop place d))
     (small : length d < 2 ^ 63) (few : length items ≤ length d) where
   attempt_by : Ending → Attempt
-  attempt_by ending = record { pattern = items; template = puts; rna = pattern_rna ++ template_rna; ending = ending }
-
-  both_read : (ending : Ending) → ReadsBoth d (attempt_by ending) (drop place d)
-  unfolding attempt_by
-  both_read ending = record {
-    pattern_rna = pattern_rna;
-    template_rna = template_rna;
-    middle = middle;
-    pattern = reads_pattern;
-    template = reads_template;
-    rna = refl;
-  }
+  attempt_by ending = record { pattern = items; template = puts; rna = rna; ending = ending }
 
   small_rest : length (drop place d) < 2 ^ 63
   small_rest = omega (arith, length-drop place d)
@@ -90,7 +77,7 @@ module _ (d : List Base) (items : List PatItem) (puts : List TplItem) (pattern_r
         rest = drop place d;
         places = found.places;
         groups = found.ranges;
-        reads = both_read ending;
+        reads = stands;
         match = match_held (drop place d) items found.places small_rest found.is;
         stops = stops;
         grouped = grouped;
@@ -100,7 +87,7 @@ module _ (d : List Base) (items : List PatItem) (puts : List TplItem) (pattern_r
       let same : texts_of (drop place d) found.ranges ≡ texts_of d x.groups = sym (texts_moved d place found.ranges) ∙ ap (texts_of d) (sym found.moves) in
       (record { dna = dna; rewrites = rewrites; same_texts = λ ending. same }, subst (λ l. IsAlike l dna) (sym is) (replaced_alike d puts (map (moved place) found.ranges) (place + stop) (few_groups found.places found.ranges grouped)))
 
-  lifted_by : (limit : ℕ) (outcome : Outcome) (next : Option (List Base)) (ending : Ending) → EndsBy d limit (attempt_by ending) ending → outcome ≡ outcome_of ending → next ≡ next_dna ending → IsLifted d limit items puts (pattern_rna ++ template_rna) outcome next
+  lifted_by : (limit : ℕ) (outcome : Outcome) (next : Option (List Base)) (ending : Ending) → EndsBy d limit (attempt_by ending) ending → outcome ≡ outcome_of ending → next ≡ next_dna ending → IsLifted d limit items puts rna outcome next
   unfolding attempt_by
   lifted_by limit outcome next ending is reported behind = record {
     attempt = attempt_by ending;
@@ -112,7 +99,7 @@ module _ (d : List Base) (items : List PatItem) (puts : List TplItem) (pattern_r
     behind = behind;
   }
 
-  pub lifted : (limit : ℕ) (outcome : Outcome) (next : Option (List Base)) → limit ≤ 2 ^ 40 → ComesTo d place limit (held_pattern items) (held_template puts) outcome next → IsLifted d limit items puts (pattern_rna ++ template_rna) outcome next
+  pub lifted : (limit : ℕ) (outcome : Outcome) (next : Option (List Base)) → limit ≤ 2 ^ 40 → ComesTo d place limit (held_pattern items) (held_template puts) outcome next → IsLifted d limit items puts rna outcome next
   unfolding attempt_by
   lifted limit (outcome.Matched stop) next most x =
       let t : (t : TrueReplacement stop (texts_of d x.1.groups)) × IsAlike x.0 t.dna = true_replacement stop x.0 x.1 in
@@ -122,7 +109,7 @@ module _ (d : List Base) (items : List PatItem) (puts : List TplItem) (pattern_r
         | inr long ↦ let above : 2 ^ 40 < length x.0 = long.0 in absurd (omega arith)
       ]
   lifted limit outcome.NoMatch next most x =
-      lifted_by limit outcome.NoMatch next (NoMatch (drop place d)) (record { reads = both_read (NoMatch (drop place d)); none = none_held (drop place d) items small_rest x.0 }) refl x.1
+      lifted_by limit outcome.NoMatch next (NoMatch (drop place d)) (record { reads = stands; none = none_held (drop place d) items small_rest x.0 }) refl x.1
   lifted limit outcome.TooLong next most x =
       let t : (t : TrueReplacement x.0 (texts_of d x.2.groups)) × IsAlike x.1 t.dna = true_replacement x.0 x.1 x.2 in
       let longer : limit < length t.0.dna = elim t.1 [

@@ -1,5 +1,5 @@
 -- From the parts of an attempt to the whole.
-use Rattle.std.proofs.Common.{◌≡◌, ℕ, ◌+◌, ◌*◌, ◌-◌, ◌^◌, ◌≤◌, inr, Option, Some, None, List, [], ◌++◌, length, drop, arith, refl, sym, ap, subst, ◌∙◌, append-nil}
+use Rattle.std.proofs.Common.{◌≡◌, ℕ, ◌+◌, ◌*◌, ◌-◌, ◌^◌, ◌≤◌, Option, Some, None, List, [], ◌++◌, length, drop, arith, refl, sym, ap, subst, ◌∙◌, append-nil}
 use Rattle.std.specs.Prelude.{unwrap_or, Result, Ok, Err, IfOk, OnErr}
 use Rattle.std.specs.Option.{option_map}
 use Rattle.std.proofs.lemmas.List.{length-map}
@@ -7,9 +7,7 @@ use Rattle.fuun_base.specs.declared.letters.Base.{Base}
 use Rattle.dna_items.specs.declared.items.PatItem.{PatItem}
 use Rattle.dna_items.specs.declared.items.TplItem.{TplItem}
 use Rattle.dna_items.specs.Held.{held_pattern_item, held_pattern, held_template}
-use Rattle.dna_reader.specs.Reading.{rna_in}
-use Rattle.dna_reader.specs.Tables.{ReadsPattern, ReadsTemplate}
-use Rattle.dna_reader.specs.Taking.{PatternIsRead, TemplateIsRead, RanOutTaking, StandsWithin}
+use Rattle.dna_reader.specs.Pairs.{ByPair, PairIsRead, PairRanOut, StandsWithinPair}
 use Rattle.matcher.specs.Found.{MatchesAt}
 use Rattle.replacer.specs.Replacement.{texts_of, replaced}
 use Rattle.replacer.specs.Weight.{weight, quoted_bases}
@@ -20,10 +18,9 @@ use Rattle.exec_loop.specs.declared.machine.StepError.{StepError}
 use Rattle.exec_loop.specs.Attempt.{Finished}
 use Rattle.exec_loop.specs.State.{State, IsLimited}
 use Rattle.exec_loop.specs.Made.{MakesAttempt, StandsWithinAttempt}
-use Rattle.exec_loop.specs.Readings.{BothAreRead, OneRanOut}
 use Rattle.exec_loop.specs.Rewriting.{ComesTo, ComesToState, ItemsTick, ByCut, ByMatch}
 use Rattle.exec_loop.specs.Weights.{Weighs, TicksForAttempt}
-use Rattle.exec_loop.proofs.Attempts.{AttemptWith, AttemptOf, attempt_of_pattern, attempt_of_template, attempt_read, one_attempt}
+use Rattle.exec_loop.proofs.Attempts.{AttemptOf, attempt_of_pair, one_attempt}
 use Rattle.exec_loop.proofs.Lifting.{IsLifted, lifted, behind_is, matched_weighs}
 use Rattle.exec_loop.proofs.Weighing.{one_weight, cut_weighs}
 
@@ -49,70 +46,25 @@ abbrev state : List Base → ℕ → State
 state d limit = record { dna = d; limit = limit }
 
 module _ {Taker : Type 0} (follows within : Taker → List (List Base) → Taker → Type 0) (d : List Base) (limit : ℕ) where
-  pub within_pattern : Widens within → (old new : Taker) → StandsWithin ReadsPattern within old new d → StandsWithinAttempt within old new (state d limit)
-  within_pattern widens old new x =
-      let made : AttemptWith d limit (rna_in x.reading) = attempt_of_pattern d limit x.reading x.is in
-      record {
-        attempt = made.attempt;
-        is = made.is;
-        stands = subst (λ l. within old l new) (sym made.begins) (widens old new (rna_in x.reading) made.more x.stands);
-      }
+  -- the readings broke off
+  pub within_pair : (old new : Taker) → StandsWithinPair within old new d 0 → StandsWithinAttempt within old new (state d limit)
+  within_pair old new x =
+      let made : AttemptOf d limit x.rna = attempt_of_pair d limit x.rna x.gives in
+      record { attempt = made.attempt; is = made.is; stands = subst (λ l. within old l new) (sym made.gives) x.stands }
 
-  pub within_template : GoesWithin follows within → (old middle new : Taker) (items : List PatItem) (next : ℕ)
-      → PatternIsRead follows old middle d 0 items next → StandsWithin ReadsTemplate within middle new (drop next d) → StandsWithinAttempt within old new (state d limit)
-  within_template goes_within old middle new items next x y =
-      let made : AttemptOf d limit (x.rna ++ rna_in y.reading) = attempt_of_template d limit x.read x.rna (drop next d) y.reading x.reads y.is in
-      record {
-        attempt = made.attempt;
-        is = made.is;
-        stands = subst (λ l. within old l new) (sym made.gives) (goes_within old middle new x.rna (rna_in y.reading) x.taken y.stands);
-      }
-
-  pub template_ran_out : GoesOn follows → (old middle new : Taker) (items : List PatItem) (next : ℕ)
-      → PatternIsRead follows old middle d 0 items next → RanOutTaking ReadsTemplate follows middle new (drop next d) → OneRanOut follows old new d
-  template_ran_out goes_on old middle new items next x y = record {
-    rna = x.rna ++ y.rna;
-    ran_out = inr (record {
-      items = x.read;
-      pattern_rna = x.rna;
-      template_rna = y.rna;
-      middle = drop next d;
-      pattern = x.reads;
-      template = y.ran_out;
-      whole = refl;
-    });
-    taken = goes_on old middle new x.rna y.rna x.taken y.taken;
-  }
-
-  pub both_read : GoesOn follows → (old middle new : Taker) (items : List PatItem) (puts : List TplItem) (next place : ℕ)
-      → PatternIsRead follows old middle d 0 items next → TemplateIsRead follows middle new d next puts place → BothAreRead follows old new d items puts place
-  both_read goes_on old middle new items puts next place x y = record {
-    items = x.read;
-    puts = y.read;
-    pattern_rna = x.rna;
-    template_rna = y.rna;
-    middle = drop next d;
-    reads_pattern = x.reads;
-    reads_template = y.reads;
-    pattern_held = x.held;
-    template_held = y.held;
-    taken = goes_on old middle new x.rna y.rna x.taken y.taken;
-  }
-
-  pub within_both : Starts follows within → (old new : Taker) (pattern : List PatItem) (template : List TplItem) (place : ℕ)
-      → BothAreRead follows old new d pattern template place → StandsWithinAttempt within old new (state d limit)
-  within_both starts old new pattern template place x =
-      let made : AttemptOf d limit (x.pattern_rna ++ x.template_rna) = attempt_read d limit x.items x.puts x.pattern_rna x.template_rna x.middle (drop place d) x.reads_pattern x.reads_template in
-      let stands : within old (x.pattern_rna ++ x.template_rna ++ []) new = starts old new (x.pattern_rna ++ x.template_rna) [] x.taken in
-      record {
-        attempt = made.attempt;
-        is = made.is;
-        stands = subst (λ l. within old l new) (append-nil (x.pattern_rna ++ x.template_rna) ∙ sym made.gives) stands;
-      }
+  -- the pair was read
+  pub within_both : Starts follows within → (old new : Taker) (pattern : List PatItem) (template : List TplItem) (next : ℕ)
+      → PairIsRead follows old new d 0 pattern template next → StandsWithinAttempt within old new (state d limit)
+  within_both starts old new pattern template next x =
+      within_pair old new (record {
+        rna = x.rna;
+        gives = ByPair x.items x.puts (drop next d) x.stands;
+        stands = subst (λ l. within old l new) (append-nil x.rna) (starts old new x.rna [] x.taken);
+      })
 
   pub makes_attempt : (old new : Taker) (after : State) (report : Report) (pattern : List PatItem) (template : List TplItem) (place : ℕ)
       → length d ≤ 2 ^ 41 → limit ≤ 2 ^ 40 → length pattern ≤ length d
-      → BothAreRead follows old new d pattern template place → ComesToState (state d limit) after place pattern template report.outcome
+      → PairIsRead follows old new d 0 pattern template place → ComesToState (state d limit) after place pattern template report.outcome
       → report.pattern ≡ pattern → report.template ≡ template
       → MakesAttempt follows old new (state d limit) after report
   makes_attempt old new after report pattern template place small most few x y pattern_is template_is =
@@ -120,8 +72,8 @@ module _ {Taker : Type 0} (follows within : Taker → List (List Base) → Taker
       let comes : ComesTo d place limit (held_pattern x.items) (held_template x.puts) report.outcome y.next =
       subst (λ p. ComesTo d place limit p (held_template x.puts) report.outcome y.next) x.pattern_held
       (subst (λ t. ComesTo d place limit pattern t report.outcome y.next) x.template_held y.comes) in
-      let made : IsLifted d limit x.items x.puts (x.pattern_rna ++ x.template_rna) report.outcome y.next =
-      lifted d x.items x.puts x.pattern_rna x.template_rna x.middle place x.reads_pattern x.reads_template (omega arith) (omega arith) limit report.outcome y.next most comes in
+      let made : IsLifted d limit x.items x.puts x.rna report.outcome y.next =
+      lifted d x.items x.puts x.rna place x.stands (omega arith) (omega arith) limit report.outcome y.next most comes in
       record {
         attempt = made.attempt;
         is = made.is;
@@ -132,7 +84,7 @@ module _ {Taker : Type 0} (follows within : Taker → List (List Base) → Taker
         taken = subst (λ l. follows old l new) (sym made.gives) x.taken;
       }
 
-  pub makes_last_attempt : (old new : Taker) (report : Report) → OneRanOut follows old new d
+  pub makes_last_attempt : (old new : Taker) (report : Report) → PairRanOut follows old new d 0
       → report.pattern ≡ [] → report.template ≡ [] → report.outcome ≡ outcome.Finished
       → MakesAttempt follows old new (state d limit) (state d limit) report
   makes_last_attempt old new report x pattern template outcome = record {
@@ -168,7 +120,7 @@ module _ {S : Type 0} (bases : S → List Base) (old new : State) (d : List Base
 
 module _ {Taker : Type 0} (follows within : Taker → List (List Base) → Taker → Type 0) (before after : State) (d : List Base) (is : before.dna ≡ d) (limited : IsLimited before) (old new : Taker) where
   pub step_ok : (pattern : List PatItem) (template : List TplItem) (place : ℕ) (result : Result Report StepError)
-      → BothAreRead follows old new d pattern template place → length pattern ≤ length d
+      → PairIsRead follows old new d 0 pattern template place → length pattern ≤ length d
       → IfOk result (λ report. ComesToState before after place pattern template report.outcome)
       → IfOk result (λ report. report.pattern ≡ pattern) → IfOk result (λ report. report.template ≡ template)
       → IfOk result (λ report. MakesAttempt follows old new before after report)
@@ -176,17 +128,20 @@ module _ {Taker : Type 0} (follows within : Taker → List (List Base) → Taker
       let fits = limited.within in let most = limited.most in
       let same : length before.dna ≡ length d = ap length is in
       makes_attempt follows within before.dna before.limit old new after report pattern template place (omega arith) (omega arith) (omega arith)
-      (subst (λ e. BothAreRead follows old new e pattern template place) (sym is) read) comes pattern_is template_is
+      (subst (λ e. PairIsRead follows old new e 0 pattern template place) (sym is) read) comes pattern_is template_is
   step_ok pattern template place (Err e) read few comes pattern_is template_is = tt
 
-  pub step_last : (report : Report) → OneRanOut follows old new d → report.pattern ≡ [] → report.template ≡ [] → report.outcome ≡ outcome.Finished
+  pub step_last : (report : Report) → PairRanOut follows old new d 0 → report.pattern ≡ [] → report.template ≡ [] → report.outcome ≡ outcome.Finished
       → MakesAttempt follows old new before before report
   step_last report ran_out pattern template outcome =
-      makes_last_attempt follows within before.dna before.limit old new report (subst (λ e. OneRanOut follows old new e) (sym is) ran_out) pattern template outcome
+      makes_last_attempt follows within before.dna before.limit old new report (subst (λ e. PairRanOut follows old new e 0) (sym is) ran_out) pattern template outcome
 
-  pub step_part : Starts follows within → (pattern : List PatItem) (template : List TplItem) (place : ℕ) → BothAreRead follows old new d pattern template place → StandsWithinAttempt within old new before
+  pub step_part : Starts follows within → (pattern : List PatItem) (template : List TplItem) (place : ℕ) → PairIsRead follows old new d 0 pattern template place → StandsWithinAttempt within old new before
   step_part starts pattern template place read =
-      within_both follows within before.dna before.limit starts old new pattern template place (subst (λ e. BothAreRead follows old new e pattern template place) (sym is) read)
+      within_both follows within before.dna before.limit starts old new pattern template place (subst (λ e. PairIsRead follows old new e 0 pattern template place) (sym is) read)
+
+  pub step_broke : StandsWithinPair within old new d 0 → StandsWithinAttempt within old new before
+  step_broke part = within_pair follows within before.dna before.limit old new (subst (λ e. StandsWithinPair within old new e 0) (sym is) part)
 
 pub put_fits : (limit len : ℕ) (next made : List Base) → next ≡ made → len ≡ length made → len ≤ limit → length next ≤ limit
 put_fits limit len next made is number within = omega (arith, ap length is)
@@ -194,7 +149,7 @@ put_fits limit len next made is number within = omega (arith, ap length is)
 -- the steps that come of the items are within what the attempt weighs
 pub step_ticks : {Taker : Type 0} (follows : Taker → List (List Base) → Taker → Type 0) (height : ℕ) (before : State) (d : List Base) → before.dna ≡ d → IsLimited before
     → (old new : Taker) (pattern : List PatItem) (template : List TplItem) (place : ℕ) (old_steps new_steps : ℕ)
-    → BothAreRead follows old new d pattern template place → length pattern ≤ length d
+    → PairIsRead follows old new d 0 pattern template place → length pattern ≤ length d
     → ItemsTick before.dna place before.limit pattern template height old_steps new_steps
     → TicksForAttempt height before old_steps new_steps
 step_ticks follows height before d is limited old new pattern template place old_steps new_steps read few (ByCut ticks) attempt number made weighs =
@@ -204,11 +159,11 @@ step_ticks follows height before d is limited old new pattern template place old
 step_ticks follows height before d is limited old new pattern template place old_steps new_steps read few (ByMatch stop groups matches within ticks) attempt number made weighs =
     let fits = limited.within in let most = limited.most in
     let same : length before.dna ≡ length d = ap length is in
-    let x : BothAreRead follows old new before.dna pattern template place = subst (λ e. BothAreRead follows old new e pattern template place) (sym is) read in
+    let x : PairIsRead follows old new before.dna 0 pattern template place = subst (λ e. PairIsRead follows old new e 0 pattern template place) (sym is) read in
     let count : length pattern ≡ length x.items = ap length x.pattern_held ∙ length-map x.items held_pattern_item in
     let found : MatchesAt before.dna place (held_pattern x.items) stop groups = subst (λ p. MatchesAt before.dna place p stop groups) x.pattern_held matches in
     let short : length (replaced before.dna (held_template x.puts) groups stop) ≤ before.limit = subst (λ t. length (replaced before.dna t groups stop) ≤ before.limit) x.template_held within in
-    let w = matched_weighs before.dna x.items x.puts x.pattern_rna x.template_rna x.middle place x.reads_pattern x.reads_template (omega arith) (omega arith) before.limit height stop groups most found short in
+    let w = matched_weighs before.dna x.items x.puts x.rna place x.stands (omega arith) (omega arith) before.limit height stop groups most found short in
     let quoted : List TplItem → ℕ = λ t. weight (length t) (quoted_bases (texts_of before.dna groups) t) height in
     let one : attempt ≡ w.0 = one_attempt before.dna before.limit attempt w.0 made w.1 in
     let number_is : number ≡ quoted template =

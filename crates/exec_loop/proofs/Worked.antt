@@ -1,5 +1,5 @@
 -- The attempts that were worked out by hand are attempts.
-use Rattle.std.proofs.Common.{◌≡◌, ℕ, zero, suc, ◌≤◌, Some, List, [], ◌∷◌, take, arith, inl, refl}
+use Rattle.std.proofs.Common.{◌≡◌, ℕ, zero, suc, ◌≤◌, Some, List, [], ◌∷◌, take, arith, refl}
 use Rattle.std.specs.Prelude.{slice_get}
 use Rattle.std.proofs.lemmas.Option.{none-some}
 use Rattle.fuun_base.specs.Quote.{protect}
@@ -7,6 +7,7 @@ use Rattle.fuun_base.specs.declared.letters.Base.{Base}
 use Rattle.fuun_base.specs.declared.letters.Base.TheVariants.{I, C, F, P}
 use Rattle.dna_items.specs.declared.items.PatItem.TheVariants.{Skip, GroupStart, GroupStop}
 use Rattle.dna_items.specs.Balance.{starts, stops}
+use Rattle.dna_reader.specs.Pairs.{PatternRunsOut}
 use Rattle.dna_reader.specs.Reading.{Read}
 use Rattle.dna_reader.specs.Tables.{pattern_table, template_table, ReadsPattern, ReadsTemplate}
 use Rattle.dna_reader.proofs.ReadingLemmas.{reads_computed}
@@ -50,9 +51,9 @@ matching_is = (
       pattern_rna = [];
       template_rna = [];
       middle = after_pattern;
-      pattern = matching_pattern;
-      template = matching_template;
-      rna = refl;
+      reads_pattern = matching_pattern;
+      reads_template = matching_template;
+      whole = refl;
     };
     match = (refl, (refl, ((refl, omega arith), (refl, ((refl, refl), tt)))));
     stops = refl;
@@ -74,16 +75,16 @@ failing_is = record {
     pattern_rna = [];
     template_rna = [];
     middle = I ∷ I ∷ C ∷ C ∷ F ∷ [];
-    pattern = reads_computed pattern_table pattern_fits 9 0 failing_dna (omega arith);
-    template = reads_computed template_table template_fits 5 0 (I ∷ I ∷ C ∷ C ∷ F ∷ []) (omega arith);
-    rna = refl;
+    reads_pattern = reads_computed pattern_table pattern_fits 9 0 failing_dna (omega arith);
+    reads_template = reads_computed template_table template_fits 5 0 (I ∷ I ∷ C ∷ C ∷ F ∷ []) (omega arith);
+    whole = refl;
   };
   none = no_match;
 }
 
 pub finishing_is : IsAttempt finishing_dna 4 finishing_attempt
 finishing_is = record {
-  ran_out = inl (record { pattern = reads_computed pattern_table pattern_fits 4 0 finishing_dna (omega arith) });
+  ran_out = PatternRunsOut (reads_computed pattern_table pattern_fits 4 0 finishing_dna (omega arith));
   no_pattern = refl;
   no_template = refl;
 }

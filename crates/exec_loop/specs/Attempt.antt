@@ -1,10 +1,9 @@
 -- One attempt of the machine: read a pattern, read a template, match, replace.
-use Rattle.std.specs.Prelude.{◌≡◌, ◌⊎◌, ℕ, ◌<◌, ◌≤◌, Option, Some, None, List, [], ◌++◌, length}
+use Rattle.std.specs.Prelude.{◌≡◌, ℕ, ◌<◌, ◌≤◌, Option, Some, None, List, [], length}
 use Rattle.fuun_base.specs.declared.letters.Base.{Base}
 use Rattle.dna_items.specs.declared.items.PatItem.{PatItem}
 use Rattle.dna_items.specs.declared.items.TplItem.{TplItem}
-use Rattle.dna_reader.specs.Reading.{Read, RanOut}
-use Rattle.dna_reader.specs.Tables.{ReadsPattern, ReadsTemplate}
+use Rattle.dna_reader.specs.Pairs.{PairStands, PairRunsOut}
 use Rattle.matcher.specs.Match.{IsMatch, HasNoMatch, last_place}
 use Rattle.matcher.specs.Groups.{AreGroups}
 use Rattle.replacer.specs.Replacement.{replaced}
@@ -23,38 +22,15 @@ pub record Attempt : Type 0 where
   pub rna : List (List Base)
   pub ending : Ending
 
--- both readings of d came to their ends, and left the rest
-pub record ReadsBoth (d : List Base) (attempt : Attempt) (rest : List Base) : Type 0 where
-  pub pattern_rna : List (List Base)
-  pub template_rna : List (List Base)
-  pub middle : List Base
-  pub pattern : ReadsPattern d (Read attempt.pattern pattern_rna middle)
-  pub template : ReadsTemplate middle (Read attempt.template template_rna rest)
-  pub rna : attempt.rna ≡ pattern_rna ++ template_rna
-
--- the pattern ran out
-pub record PatternRanOut (d : List Base) (rna : List (List Base)) : Type 0 where
-  pub pattern : ReadsPattern d (RanOut rna)
-
--- the pattern came to its end and the template ran out
-pub record TemplateRanOut (d : List Base) (rna : List (List Base)) : Type 0 where
-  pub items : List PatItem
-  pub pattern_rna : List (List Base)
-  pub template_rna : List (List Base)
-  pub middle : List Base
-  pub pattern : ReadsPattern d (Read items pattern_rna middle)
-  pub template : ReadsTemplate middle (RanOut template_rna)
-  pub whole : rna ≡ pattern_rna ++ template_rna
-
 -- a reading ran out: no items count
 pub record ReadingRanOut (d : List Base) (attempt : Attempt) : Type 0 where
-  pub ran_out : PatternRanOut d attempt.rna ⊎ TemplateRanOut d attempt.rna
+  pub ran_out : PairRunsOut d attempt.rna
   pub no_pattern : attempt.pattern ≡ []
   pub no_template : attempt.template ≡ []
 
 -- the pattern has no match on what the readings left, which is the next DNA
 pub record FindsNone (d : List Base) (attempt : Attempt) (next : List Base) : Type 0 where
-  pub reads : ReadsBoth d attempt next
+  pub reads : PairStands d attempt.pattern attempt.template attempt.rna next
   pub none : HasNoMatch next attempt.pattern
 
 -- the pattern has a match, and this is the DNA with what the template puts in the place of what was matched
@@ -62,7 +38,7 @@ pub record Rewrites (d : List Base) (attempt : Attempt) (stop : ℕ) (next : Lis
   pub rest : List Base
   pub places : List ℕ
   pub groups : List (ℕ × ℕ)
-  pub reads : ReadsBoth d attempt rest
+  pub reads : PairStands d attempt.pattern attempt.template attempt.rna rest
   pub match : IsMatch rest attempt.pattern places
   pub stops : stop ≡ last_place places
   pub grouped : AreGroups attempt.pattern places groups

@@ -4,7 +4,6 @@ pub mod State
 pub mod Made
 pub mod Weights
 pub mod Laws
-pub mod Readings
 pub mod Rewriting
 pub mod RunEnds
 pub mod Worked

@@ -3,7 +3,6 @@
 
 pub mod laws;
 mod machine;
-mod readings;
 mod rewriting;
 mod run;
 mod state;

@@ -6,7 +6,7 @@ ghost use Rattle.fuun_base.specs.Ticks.{Ticks};
 ghost use Rattle.matcher.specs.Found.{MatchesAt, LiesWithin};
 
 use crate::Outcome;
-use crate::readings::Items;
+use dna_reader::Pair;
 use fuun_base::{NoMemory, Steps};
 use matcher::{GroupList, MatchEnd, match_at};
 use replacer::{replace, replaced_len};
@@ -14,31 +14,31 @@ use std::alloc::Global;
 use std::sync::ledger::Ledger;
 use strand::Strand;
 
-/// How an attempt ended whose items were read, and the next DNA where there is one.
+/// How an attempt ended whose pair was read, and the next DNA where there is one.
 #[derive(Drop)]
 pub(crate) struct Rewriting<S: Strand> {
     pub(crate) outcome: Outcome,
     pub(crate) next: Option<S>,
 }
 
-/// Matches the items on what the DNA holds behind them, and makes the next DNA.
+/// Matches the pair on what the DNA holds behind it, and makes the next DNA.
 pub(crate) fn rewrite<S: Strand, L: Ledger>(
     alloc: Global,
     dna: &S,
     limit: u64,
-    items: &Items,
+    pair: &Pair,
     steps: &mut Steps<L>,
 ) -> Result<Rewriting<S>, NoMemory>
-    requires place { items.now.place ≤ length (S.bases dna.now) }
-    requires balanced { IsBalanced items.now.pattern }
+    requires place { pair.now.next ≤ length (S.bases dna.now) }
+    requires balanced { IsBalanced pair.now.pattern }
     requires limit { limit ≤ 2 ^ 40 }
     requires within { length (S.bases dna.now) ≤ limit }
-    ensures comes { IfOk result (λ made. ComesTo (S.bases dna.now) items.now.place limit items.now.pattern items.now.template made.outcome (option_map S.bases made.next)) }
-    ensures ticks { ItemsTick (S.bases dna.now) items.now.place limit items.now.pattern items.now.template (S.height_bound limit) steps.old steps.new }
+    ensures comes { IfOk result (λ made. ComesTo (S.bases dna.now) pair.now.next limit pair.now.pattern pair.now.template made.outcome (option_map S.bases made.next)) }
+    ensures ticks { ItemsTick (S.bases dna.now) pair.now.next limit pair.now.pattern pair.now.template (S.height_bound limit) steps.old steps.new }
 {
-    match match_at(alloc, dna, items.place, &items.pattern)? {
-        MatchEnd::Matched { stop, groups } => put(alloc, dna, limit, items, stop, &groups, steps),
-        MatchEnd::NoMatch => leave(dna, items.place, steps),
+    match match_at(alloc, dna, pair.next, &pair.pattern)? {
+        MatchEnd::Matched { stop, groups } => put(alloc, dna, limit, pair, stop, &groups, steps),
+        MatchEnd::NoMatch => leave(dna, pair.next, steps),
     }
 }
 
@@ -47,28 +47,28 @@ fn put<S: Strand, L: Ledger>(
     alloc: Global,
     dna: &S,
     limit: u64,
-    items: &Items,
+    pair: &Pair,
     stop: u64,
     groups: &GroupList,
     steps: &mut Steps<L>,
 ) -> Result<Rewriting<S>, NoMemory>
     requires stop { stop ≤ length (S.bases dna.now) }
     requires groups { All (LiesWithin (length (S.bases dna.now))) groups.now }
-    requires matches { MatchesAt (S.bases dna.now) items.now.place items.now.pattern stop groups.now }
+    requires matches { MatchesAt (S.bases dna.now) pair.now.next pair.now.pattern stop groups.now }
     requires limit { limit ≤ 2 ^ 40 }
     requires within { length (S.bases dna.now) ≤ limit }
-    ensures comes { IfOk result (λ made. ComesTo (S.bases dna.now) items.now.place limit items.now.pattern items.now.template made.outcome (option_map S.bases made.next)) }
-    ensures ticks { ItemsTick (S.bases dna.now) items.now.place limit items.now.pattern items.now.template (S.height_bound limit) steps.old steps.new }
+    ensures comes { IfOk result (λ made. ComesTo (S.bases dna.now) pair.now.next limit pair.now.pattern pair.now.template made.outcome (option_map S.bases made.next)) }
+    ensures ticks { ItemsTick (S.bases dna.now) pair.now.next limit pair.now.pattern pair.now.template (S.height_bound limit) steps.old steps.new }
 {
-    let Some(_len) = replaced_len(dna, &items.template, groups, stop, limit) else {
+    let Some(_len) = replaced_len(dna, &pair.template, groups, stop, limit) else {
         return Ok(Rewriting {
             outcome: Outcome::TooLong,
             next: None,
         });
     };
-    let next = replace(alloc, dna, &items.template, groups, stop, steps)?;
+    let next = replace(alloc, dna, &pair.template, groups, stop, steps)?;
     Ok(Rewriting {
-        outcome: Outcome::Matched(stop - items.place),
+        outcome: Outcome::Matched(stop - pair.next),
         next: Some(next),
     })
 }

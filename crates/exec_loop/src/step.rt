@@ -6,11 +6,10 @@ ghost use Rattle.exec_loop.specs.Made.{MakesAttempt, StandsWithinAttempt};
 ghost use Rattle.exec_loop.specs.Weights.{TicksForAttempt};
 ghost use Rattle.fuun_io.specs.Counts.{Rose};
 
-use crate::readings::{Items, read_both};
 use crate::rewriting::{Rewriting, rewrite};
 use crate::{Machine, Outcome, Report, StepError};
 use dna_items::{PatList, TplList};
-use dna_reader::{ReadingError, RnaTaker};
+use dna_reader::{Pair, ReadingError, RnaTaker, read_pair};
 use fuun_base::Steps;
 use std::alloc::Global;
 use std::sync::ledger::Ledger;
@@ -38,37 +37,33 @@ impl<S: Strand> Machine<S> {
         ensures ticks { TicksForAttempt (S.height_bound self.old.limit) self.old steps.old steps.new }
     {
         let _limit = self.limit();
-        match read_both(self.alloc, &self.dna, rna) {
-            Ok(items) => self.put_next(items, steps),
+        match read_pair(self.alloc, &self.dna, 0, rna) {
+            Ok(pair) => self.put_next(pair, steps),
             Err(ReadingError::RanOut) => Ok(Report::finished(self.alloc)),
             Err(ReadingError::TakerFailed) => Err(StepError::TakerFailed),
             Err(ReadingError::NoMemory) => Err(StepError::NoMemory),
         }
     }
 
-    /// Puts the DNA that the items make of this one in its place, if there is one.
-    fn put_next<L: Ledger>(
-        &mut self,
-        items: Items,
-        steps: &mut Steps<L>,
-    ) -> Result<Report, StepError>
-        requires place { items.place ≤ length self.old.dna }
-        requires balanced { IsBalanced items.pattern }
-        ensures came { IfOk result (λ report. ComesToState self.old self.new items.place items.pattern items.template report.outcome) }
-        ensures pattern { IfOk result (λ report. report.pattern ≡ items.pattern) }
-        ensures template { IfOk result (λ report. report.template ≡ items.template) }
+    /// Puts the DNA that the pair makes of this one in its place, if there is one.
+    fn put_next<L: Ledger>(&mut self, pair: Pair, steps: &mut Steps<L>) -> Result<Report, StepError>
+        requires place { pair.next ≤ length self.old.dna }
+        requires balanced { IsBalanced pair.pattern }
+        ensures came { IfOk result (λ report. ComesToState self.old self.new pair.next pair.pattern pair.template report.outcome) }
+        ensures pattern { IfOk result (λ report. report.pattern ≡ pair.pattern) }
+        ensures template { IfOk result (λ report. report.template ≡ pair.template) }
         ensures limit { self.new.limit ≡ self.old.limit }
         ensures limited { IsLimited self.new }
         ensures unchanged { OnErr result (self.new ≡ self.old) }
         ensures memory { OnErr result (result ≡ Err StepError.NoMemory) }
-        ensures ticks { ItemsTick self.old.dna items.place self.old.limit items.pattern items.template (S.height_bound self.old.limit) steps.old steps.new }
+        ensures ticks { ItemsTick self.old.dna pair.next self.old.limit pair.pattern pair.template (S.height_bound self.old.limit) steps.old steps.new }
     {
-        let rewriting = rewrite(self.alloc, &self.dna, self.limit, &items, steps)?;
-        let Items {
+        let rewriting = rewrite(self.alloc, &self.dna, self.limit, &pair, steps)?;
+        let Pair {
             pattern,
             template,
             ..
-        } = items;
+        } = pair;
         let Rewriting { outcome, next } = rewriting;
         if let Some(dna) = next {
             self.dna = dna;

@@ -1,13 +1,12 @@
 -- Cells have a run for each budget and limit.
-use Rattle.std.proofs.Common.{◌≡◌, ℕ, zero, suc, ◌+◌, ◌-◌, ◌⊎◌, inl, inr, Bool, true, false, Some, List, [], ◌∷◌, ◌++◌, length, drop, arith, refl, ap}
+use Rattle.std.proofs.Common.{◌≡◌, ℕ, zero, suc, ◌+◌, ◌-◌, ◌⊎◌, inl, inr, Bool, true, false, Some, List, [], ◌∷◌, length, drop, arith, refl, ap}
 use Rattle.std.proofs.lemmas.Bool.{cases_lt}
 use Rattle.fuun_base.specs.declared.letters.Base.{Base}
 use Rattle.dna_items.specs.declared.items.PatItem.{PatItem}
 use Rattle.dna_items.specs.declared.items.TplItem.{TplItem}
-use Rattle.dna_reader.specs.Reading.{Reading, Read, RanOut}
-use Rattle.dna_reader.specs.Tables.{pattern_table, template_table, ReadsPattern, ReadsTemplate}
-use Rattle.dna_reader.proofs.ReadingLemmas.{has_reading}
-use Rattle.dna_reader.proofs.TableLemmas.{pattern_fits, template_fits, patterns_are_balanced}
+use Rattle.dna_reader.specs.Pairs.{PairStands, PairGives, ByPair, ByRunningOut}
+use Rattle.dna_reader.proofs.PairLemmas.{has_pair}
+use Rattle.dna_reader.proofs.TableLemmas.{patterns_are_balanced}
 use Rattle.matcher.specs.Groups.{AreGroups}
 use Rattle.matcher.specs.Match.{last_place}
 use Rattle.matcher.proofs.Grouping.{groups_exist}
@@ -38,24 +37,23 @@ ran_out_on z limit rna out =
       )
     ]
 
-module _ (z : List Cell) (limit : ℕ) (pattern : List PatItem) (template : List TplItem) (pattern_rna template_rna : List (List Base)) (middle left : List Base)
-    (reads_pattern : ReadsPattern (known_front z) (Read pattern pattern_rna middle)) (reads_template : ReadsTemplate middle (Read template template_rna left)) where
+module _ (z : List Cell) (limit : ℕ) (pattern : List PatItem) (template : List TplItem) (rna : List (List Base)) (left : List Base) (stands : PairStands (known_front z) pattern template rna left) where
   rest : List Cell
   rest = drop (length (known_front z) - length left) z
 
   attempt_by : Ending → Attempt
-  attempt_by ending = record { pattern = pattern; template = template; rna = pattern_rna ++ template_rna; ending = ending }
+  attempt_by ending = record { pattern = pattern; template = template; rna = rna; ending = ending }
 
   both_read : (ending : Ending) → ReadsBoth z (attempt_by ending) rest
   unfolding rest attempt_by
   both_read ending = record {
-    pattern_rna = pattern_rna;
-    template_rna = template_rna;
-    middle = middle;
+    pattern_rna = stands.pattern_rna;
+    template_rna = stands.template_rna;
+    middle = stands.middle;
     left = left;
-    pattern = reads_pattern;
-    template = reads_template;
-    rna = refl;
+    pattern = stands.reads_pattern;
+    template = stands.reads_template;
+    rna = stands.whole;
     behind = refl;
   }
 
@@ -92,7 +90,7 @@ module _ (z : List Cell) (limit : ℕ) (pattern : List PatItem) (template : List
   by_course : Course rest pattern 0 → AttemptOrDepends z limit
   unfolding attempt_by AttemptOrDepends
   by_course (Through places leads) =
-      let grouped : (groups : List (ℕ × ℕ)) × AreGroups pattern (0 ∷ places) groups = groups_exist pattern (0 ∷ places) (patterns_are_balanced (known_front z) pattern pattern_rna middle reads_pattern) in
+      let grouped : (groups : List (ℕ × ℕ)) × AreGroups pattern (0 ∷ places) groups = groups_exist pattern (0 ∷ places) (patterns_are_balanced (known_front z) pattern stands.pattern_rna stands.middle stands.reads_pattern) in
       by_template places grouped.0 leads grouped.1 (depends_on_target (texts_of rest grouped.0) template) refl
   by_course (Stuck fails) = inl (attempt_by (NoMatch rest), record { reads = both_read (NoMatch rest); fails = fails })
   by_course (Open depends) = inr (InMatching (attempt_by one.Finished) rest (both_read one.Finished) depends)
@@ -100,24 +98,13 @@ module _ (z : List Cell) (limit : ℕ) (pattern : List PatItem) (template : List
   of_items : AttemptOrDepends z limit
   of_items = by_course (course_of rest pattern 0)
 
-of_template : (z : List Cell) (limit : ℕ) (pattern : List PatItem) (rna : List (List Base)) (middle : List Base) (template : Reading TplItem)
-    → ReadsPattern (known_front z) (Read pattern rna middle) → ReadsTemplate middle template → AttemptOrDepends z limit
-of_template z limit pattern rna middle (Read items template_rna left) reads also = of_items z limit pattern items rna template_rna middle left reads also
-of_template z limit pattern rna middle (RanOut template_rna) reads also =
-    ran_out_on z limit (rna ++ template_rna)
-    (inr (record { items = pattern; pattern_rna = rna; template_rna = template_rna; middle = middle; pattern = reads; template = also; whole = refl }))
-
-of_pattern : (z : List Cell) (limit : ℕ) (pattern : Reading PatItem) → ReadsPattern (known_front z) pattern → AttemptOrDepends z limit
-of_pattern z limit (Read items rna middle) reads =
-    let template : (reading : Reading TplItem) × ReadsTemplate middle reading = has_reading template_table template_fits 0 middle in
-    of_template z limit items rna middle template.0 reads template.1
-of_pattern z limit (RanOut rna) reads = ran_out_on z limit rna (inl (record { pattern = reads }))
+of_pair : (z : List Cell) (limit : ℕ) (rna : List (List Base)) → PairGives (known_front z) rna → AttemptOrDepends z limit
+of_pair z limit rna (ByPair pattern template left stands) = of_items z limit pattern template rna left stands
+of_pair z limit rna (ByRunningOut runs_out) = ran_out_on z limit rna runs_out
 
 pub attempt_or_depends : HasAttemptOrDepends
 unfolding AttemptOrDepends
-attempt_or_depends z limit =
-    let pattern : (reading : Reading PatItem) × ReadsPattern (known_front z) reading = has_reading pattern_table pattern_fits 0 (known_front z) in
-    of_pattern z limit pattern.0 pattern.1
+attempt_or_depends z limit = let pair = has_pair (known_front z) in of_pair z limit pair.0 pair.1
 
 -- runs
 

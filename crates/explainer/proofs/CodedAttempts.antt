@@ -54,13 +54,13 @@ reads_code pattern template r c attempt readable is_pattern is_template is_rna =
     let count : length (known_front z) - length left ≡ length code = omega (arith, ap length front, length-append code left) in
     let whole : z ≡ map Known code ++ (map Known r ++ c) = ap (λ l. l ++ c) (map-append Known code r) ∙ append_assoc (map Known code) (map Known r) c in
     record {
-      pattern_rna = [];
-      template_rna = [];
+      pattern_rna = reads.pattern_rna;
+      template_rna = reads.template_rna;
       middle = reads.middle;
       left = left;
       pattern = rw (is_pattern, front) reads.reads_pattern;
       template = rw is_template reads.reads_template;
-      rna = is_rna;
+      rna = is_rna ∙ reads.whole;
       behind = sym (ap (λ n. drop n z) count ∙ ap (drop (length code)) whole ∙ drop_known code (map Known r ++ c));
     }
 

@@ -1,13 +1,13 @@
 -- The attempt on cells is the machine's on what they stand for in a target.
-use Rattle.std.proofs.Common.{◌≡◌, ℕ, ◌-◌, ◌<◌, ◌≤◌, ◌⊎◌, Some, List, [], ◌∷◌, ◌++◌, length, drop, arith, refl, sym, ap, subst, ◌∙◌, append-nil, append_assoc}
+use Rattle.std.proofs.Common.{◌≡◌, ℕ, ◌-◌, ◌<◌, ◌≤◌, Some, List, [], ◌∷◌, ◌++◌, length, drop, arith, refl, sym, ap, subst, ◌∙◌, append-nil, append_assoc}
 use Rattle.std.specs.Option.{option_map}
 use Rattle.std.proofs.lemmas.List.{length-map, drop-map, length-append, drop_all}
 use Rattle.std.proofs.Math.Seq.{drop-append_seam}
 use Rattle.fuun_base.specs.declared.letters.Base.{Base}
+use Rattle.dna_reader.specs.Pairs.{PairStands, PairRunsOut}
 use Rattle.dna_reader.specs.Reading.{Read}
 use Rattle.dna_reader.specs.Tables.{pattern_table, template_table, ReadsPattern, ReadsTemplate}
 use Rattle.exec_loop.specs.Attempt as machine
-use Rattle.exec_loop.specs.Attempt.{PatternRanOut, TemplateRanOut}
 use Rattle.sym_strand.specs.declared.cells.Cell.{Cell}
 use Rattle.sym_strand.specs.Cells.{known_front}
 use Rattle.explainer.specs.Filling.{base_in, fill}
@@ -26,9 +26,9 @@ left_filled d front left z is =
     let whole : fill d z ≡ front ++ (left ++ t) = fill_front d z ∙ ap (λ l. l ++ t) is ∙ append_assoc front left t in
     sym (drop-append_seam front (left ++ t)) ∙ ap (drop (length front)) (sym whole) ∙ drop-map (base_in d) (length front) z ∙ ap (λ n. fill d (drop n z)) (sym count)
 
-pub reads_filled : (d : List Base) (z : List Cell) (attempt : Attempt) (rest : List Cell) (ending : machine.Ending) → ReadsBoth z attempt rest
-    → machine.ReadsBoth (fill d z) (record { pattern = attempt.pattern; template = attempt.template; rna = attempt.rna; ending = ending }) (fill d rest)
-reads_filled d z attempt rest ending x =
+pub reads_filled : (d : List Base) (z : List Cell) (attempt : Attempt) (rest : List Cell) → ReadsBoth z attempt rest
+    → PairStands (fill d z) attempt.pattern attempt.template attempt.rna (fill d rest)
+reads_filled d z attempt rest x =
     let w : List Base = known_front z in
     let t : List Base = fill d (drop (length w) z) in
     let first = reading_leaves pattern_table 0 w attempt.pattern x.pattern_rna x.middle x.pattern in
@@ -39,19 +39,16 @@ reads_filled d z attempt rest ending x =
       pattern_rna = x.pattern_rna;
       template_rna = x.template_rna;
       middle = x.middle ++ t;
-      pattern = subst (λ l. ReadsPattern l (Read attempt.pattern x.pattern_rna (x.middle ++ t))) (sym (fill_front d z)) (longer_pattern 0 w t attempt.pattern x.pattern_rna x.middle x.pattern);
-      template = subst (λ l. ReadsTemplate (x.middle ++ t) (Read attempt.template x.template_rna l)) behind (longer_template 0 x.middle t attempt.template x.template_rna x.left x.template);
-      rna = x.rna;
+      reads_pattern = subst (λ l. ReadsPattern l (Read attempt.pattern x.pattern_rna (x.middle ++ t))) (sym (fill_front d z)) (longer_pattern 0 w t attempt.pattern x.pattern_rna x.middle x.pattern);
+      reads_template = subst (λ l. ReadsTemplate (x.middle ++ t) (Read attempt.template x.template_rna l)) behind (longer_template 0 x.middle t attempt.template x.template_rna x.left x.template);
+      whole = x.rna;
     }
 
-abbrev RanOutIn : List Base → List (List Base) → Type 0
-RanOutIn d rna = PatternRanOut d rna ⊎ TemplateRanOut d rna
-
-ran_out_filled : (d : List Base) (z : List Cell) (rna : List (List Base)) → length (known_front z) ≡ length z → RanOutOn z rna → RanOutIn (fill d z) rna
+ran_out_filled : (d : List Base) (z : List Cell) (rna : List (List Base)) → length (known_front z) ≡ length z → RanOutOn z rna → PairRunsOut (fill d z) rna
 ran_out_filled d z rna whole x =
     let none : fill d (drop (length (known_front z)) z) ≡ [] = ap (fill d) (drop_all (length (known_front z)) z (omega arith)) in
     let same : fill d z ≡ known_front z = fill_front d z ∙ ap (λ l. known_front z ++ l) none ∙ append-nil (known_front z) in
-    subst (λ l. RanOutIn l rna) (sym same) x
+    subst (λ l. PairRunsOut l rna) (sym same) x
 
 rewrites_filled : (d : List Base) (z : List Cell) (attempt : Attempt) (ending : machine.Ending) (stop : ℕ) (next : List Cell) → Rewrites z attempt stop next
     → machine.Rewrites (fill d z) (record { pattern = attempt.pattern; template = attempt.template; rna = attempt.rna; ending = ending }) stop (fill d next)
@@ -59,7 +56,7 @@ rewrites_filled d z attempt ending stop next x = record {
   rest = fill d x.rest;
   places = 0 ∷ x.places;
   groups = x.groups;
-  reads = reads_filled d z attempt x.rest ending x.matches.reads;
+  reads = reads_filled d z attempt x.rest x.matches.reads;
   match = (refl, along_filled d x.rest attempt.pattern 0 x.places x.matches.leads);
   stops = x.stops;
   grouped = x.matches.grouped;
@@ -71,7 +68,7 @@ ends_filled : (d : List Base) (z : List Cell) (limit : ℕ) (attempt : Attempt) 
 ends_filled d z limit attempt whole (Matched stop next) x =
     (rewrites_filled d z attempt whole stop next x.0, let within : length next ≤ limit = x.1 in omega (arith, length-map next (base_in d)))
 ends_filled d z limit attempt whole (NoMatch next) x = record {
-  reads = reads_filled d z attempt next whole x.reads;
+  reads = reads_filled d z attempt next x.reads;
   none = no_match_filled d next attempt.pattern x.fails;
 }
 ends_filled d z limit attempt whole TooLong x =

@@ -7,10 +7,10 @@ use Rattle.fuun_base.specs.declared.letters.Base.{Base}
 use Rattle.dna_items.specs.declared.items.PatItem.{PatItem}
 use Rattle.dna_items.specs.declared.items.TplItem.{TplItem}
 use Rattle.dna_items.specs.Held.{held_pattern_item}
+use Rattle.dna_reader.specs.Pairs.{PairIsRead, PairRanOut}
 use Rattle.dna_reader.specs.Takers.{Appended}
 use Rattle.matcher.specs.Groups.{AreGroups}
 use Rattle.matcher.proofs.OpenGroups.{stops_most}
-use Rattle.exec_loop.specs.Readings.{BothAreRead, OneRanOut}
 use Rattle.exec_loop.proofs.HeldItems.{groups_held}
 use Rattle.sym_strand.specs.declared.cells.Cell.{Cell}
 use Rattle.sym_strand.specs.Cells.{all_known, known_front}
@@ -27,7 +27,7 @@ use Rattle.explainer.proofs.HeldCells.{lead_along_held, fail_along_held, depend_
 
 -- a reading that ran out
 
-pub ran_out : (z : List Cell) (limit : ℕ) (old new : List (List Base)) → OneRanOut Appended old new (known_front z) → (known : Bool) → known ≡ all_known z → (next : Next) → next ≡ (if known then Finished else Depends) → Comes z limit old new next
+pub ran_out : (z : List Cell) (limit : ℕ) (old new : List (List Base)) → PairRanOut Appended old new (known_front z) 0 → (known : Bool) → known ≡ all_known z → (next : Next) → next ≡ (if known then Finished else Depends) → Comes z limit old new next
 ran_out z limit old new out true is next same =
     subst (Comes z limit old new) (sym same) (record {
       attempt = record { pattern = []; template = []; rna = out.rna; ending = one.Finished };
@@ -41,21 +41,21 @@ ran_out z limit old new out false is next same =
 -- items that were read
 
 module _ (z : List Cell) (limit : ℕ) (old new : List (List Base)) (pattern : List PatItem) (template : List TplItem) (place : ℕ)
-    (read : BothAreRead Appended old new (known_front z) pattern template place)
+    (read : PairIsRead Appended old new (known_front z) 0 pattern template place)
     (within : place ≤ length (known_front z)) (few : length pattern ≤ length (known_front z)) (small : length z ≤ 2 ^ 40) (most : limit ≤ 2 ^ 40) where
   attempt_by : one.Ending → Attempt
-  attempt_by ending = record { pattern = read.items; template = read.puts; rna = read.pattern_rna ++ read.template_rna; ending = ending }
+  attempt_by ending = record { pattern = read.items; template = read.puts; rna = read.rna; ending = ending }
 
   both_read : (ending : one.Ending) → ReadsBoth z (attempt_by ending) (drop place z)
   unfolding attempt_by
   both_read ending = record {
-    pattern_rna = read.pattern_rna;
-    template_rna = read.template_rna;
-    middle = read.middle;
+    pattern_rna = read.stands.pattern_rna;
+    template_rna = read.stands.template_rna;
+    middle = read.stands.middle;
     left = drop place (known_front z);
-    pattern = read.reads_pattern;
-    template = read.reads_template;
-    rna = refl;
+    pattern = read.stands.reads_pattern;
+    template = read.stands.reads_template;
+    rna = read.stands.whole;
     behind = ap (λ n. drop n z) (let e : place ≡ length (known_front z) - length (drop place (known_front z)) = omega (arith, length-drop place (known_front z)) in e);
   }
 

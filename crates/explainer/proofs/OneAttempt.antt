@@ -1,11 +1,8 @@
 -- Cells have one attempt at most, and none where it depends on the target.
-use Rattle.std.proofs.Common.{◌≡◌, ℕ, ◌-◌, ◌<◌, ◌≤◌, inl, inr, true, false, List, [], ◌∷◌, ◌++◌, length, drop, arith, refl, sym, ap, subst, ◌∙◌}
+use Rattle.std.proofs.Common.{◌≡◌, ℕ, ◌-◌, ◌<◌, ◌≤◌, true, false, List, ◌∷◌, length, drop, arith, refl, sym, ap, subst, ◌∙◌}
 use Rattle.fuun_base.specs.declared.letters.Base.{Base}
-use Rattle.dna_items.specs.declared.items.PatItem.{PatItem}
-use Rattle.dna_items.specs.declared.items.TplItem.{TplItem}
-use Rattle.dna_reader.specs.Reading.{Reading, Read, RanOut}
-use Rattle.dna_reader.specs.Tables.{pattern_table, template_table, ReadsTemplate}
-use Rattle.dna_reader.proofs.ReadingLemmas.{one_reading}
+use Rattle.dna_reader.specs.Pairs.{PairStands}
+use Rattle.dna_reader.proofs.PairLemmas.{one_pair, pairs_do_not_run_out, runs_out_once}
 use Rattle.matcher.specs.Groups.{AreGroups}
 use Rattle.matcher.specs.Match.{last_place}
 use Rattle.matcher.proofs.OpenGroups.{one_list_of_groups}
@@ -25,51 +22,28 @@ record SameReads (a b : Attempt) (y y' : List Cell) : Type 0 where
   rna : a.rna ≡ b.rna
   rest : y ≡ y'
 
-read_parts : {Item : Type 0} (a b : List Item) (x y : List (List Base)) (r s : List Base) → ◌≡◌ {A = Reading Item} (Read a x r) (Read b y s) → (a ≡ b) × (x ≡ y) × (r ≡ s)
-read_parts {Item} a b x y r s e =
-    let items : Reading Item → List Item = λ reading. elim reading [ Read i c l ↦ i | RanOut c ↦ [] ] in
-    let rna : Reading Item → List (List Base) = λ reading. elim reading [ Read i c l ↦ c | RanOut c ↦ [] ] in
-    let rest : Reading Item → List Base = λ reading. elim reading [ Read i c l ↦ l | RanOut c ↦ [] ] in
-    (ap items e, ap rna e, ap rest e)
+pair_of : (z : List Cell) (a : Attempt) (y : List Cell) → (reads : ReadsBoth z a y) → PairStands (known_front z) a.pattern a.template a.rna reads.left
+pair_of z a y reads = record {
+  pattern_rna = reads.pattern_rna;
+  template_rna = reads.template_rna;
+  middle = reads.middle;
+  reads_pattern = reads.pattern;
+  reads_template = reads.template;
+  whole = reads.rna;
+}
 
 reads_same : (z : List Cell) (a b : Attempt) (y y' : List Cell) → ReadsBoth z a y → ReadsBoth z b y' → SameReads a b y y'
 reads_same z a b y y' p q =
-    let w : List Base = known_front z in
-    let e = read_parts a.pattern b.pattern p.pattern_rna q.pattern_rna p.middle q.middle (one_reading pattern_table 0 w (Read a.pattern p.pattern_rna p.middle) (Read b.pattern q.pattern_rna q.middle) p.pattern q.pattern) in
-    let t : ReadsTemplate q.middle (Read a.template p.template_rna p.left) = subst (λ m. ReadsTemplate m (Read a.template p.template_rna p.left)) e.2 p.template in
-    let f = read_parts a.template b.template p.template_rna q.template_rna p.left q.left (one_reading template_table 0 q.middle (Read a.template p.template_rna p.left) (Read b.template q.template_rna q.left) t q.template) in
+    let same = one_pair (known_front z) a.pattern b.pattern a.template b.template a.rna b.rna p.left q.left (pair_of z a y p) (pair_of z b y' q) in
     record {
-      pattern = e.0;
-      template = f.0;
-      rna = p.rna ∙ ap (λ l. l ++ p.template_rna) e.1 ∙ ap (λ l. q.pattern_rna ++ l) f.1 ∙ sym q.rna;
-      rest = p.behind ∙ ap (λ l. drop (length w - length l) z) f.2 ∙ sym q.behind;
+      pattern = same.pattern;
+      template = same.template;
+      rna = same.rna;
+      rest = p.behind ∙ ap (λ l. drop (length (known_front z) - length l) z) same.rest ∙ sym q.behind;
     }
 
-not_both : {Item : Type 0} (a : List Item) (x y : List (List Base)) (r : List Base) → ◌≡◌ {A = Reading Item} (Read a x r) (RanOut y) → ⊥
-not_both a x y r e = cc
-
 reads_no_out : (z : List Cell) (a : Attempt) (y : List Cell) (rna : List (List Base)) → ReadsBoth z a y → RanOutOn z rna → ⊥
-reads_no_out z a y rna p (inl out) =
-    not_both a.pattern p.pattern_rna rna p.middle (one_reading pattern_table 0 (known_front z) (Read a.pattern p.pattern_rna p.middle) (RanOut rna) p.pattern out.pattern)
-reads_no_out z a y rna p (inr out) =
-    let e = read_parts a.pattern out.items p.pattern_rna out.pattern_rna p.middle out.middle (one_reading pattern_table 0 (known_front z) (Read a.pattern p.pattern_rna p.middle) (Read out.items out.pattern_rna out.middle) p.pattern out.pattern) in
-    let t : ReadsTemplate out.middle (Read a.template p.template_rna p.left) = subst (λ m. ReadsTemplate m (Read a.template p.template_rna p.left)) e.2 p.template in
-    not_both a.template p.template_rna out.template_rna p.left (one_reading template_table 0 out.middle (Read a.template p.template_rna p.left) (RanOut out.template_rna) t out.template)
-
-ran_out_same : (z : List Cell) (x y : List (List Base)) → RanOutOn z x → RanOutOn z y → x ≡ y
-ran_out_same z x y (inl p) (inl q) = cc_rna x y (one_reading pattern_table 0 (known_front z) (RanOut x) (RanOut y) p.pattern q.pattern) where
-  cc_rna : (x y : List (List Base)) → ◌≡◌ {A = Reading PatItem} (RanOut x) (RanOut y) → x ≡ y
-  cc_rna x y e = cc
-ran_out_same z x y (inl p) (inr q) =
-    absurd (not_both q.items q.pattern_rna x q.middle (one_reading pattern_table 0 (known_front z) (Read q.items q.pattern_rna q.middle) (RanOut x) q.pattern p.pattern))
-ran_out_same z x y (inr p) (inl q) =
-    absurd (not_both p.items p.pattern_rna y p.middle (one_reading pattern_table 0 (known_front z) (Read p.items p.pattern_rna p.middle) (RanOut y) p.pattern q.pattern))
-ran_out_same z x y (inr p) (inr q) =
-    let e = read_parts p.items q.items p.pattern_rna q.pattern_rna p.middle q.middle (one_reading pattern_table 0 (known_front z) (Read p.items p.pattern_rna p.middle) (Read q.items q.pattern_rna q.middle) p.pattern q.pattern) in
-    let t : ReadsTemplate q.middle (RanOut p.template_rna) = subst (λ m. ReadsTemplate m (RanOut p.template_rna)) e.2 p.template in
-    p.whole ∙ ap (λ l. l ++ p.template_rna) e.1 ∙ ap (λ l. q.pattern_rna ++ l) (cc_rna p.template_rna q.template_rna (one_reading template_table 0 q.middle (RanOut p.template_rna) (RanOut q.template_rna) t q.template)) ∙ sym q.whole where
-      cc_rna : (x y : List (List Base)) → ◌≡◌ {A = Reading TplItem} (RanOut x) (RanOut y) → x ≡ y
-      cc_rna x y e = cc
+reads_no_out z a y rna p out = pairs_do_not_run_out (known_front z) a.pattern a.template a.rna rna p.left (pair_of z a y p) out
 
 -- matches
 
@@ -133,7 +107,7 @@ by_endings z limit a b Finished (Matched t n) p q x y = absurd (reads_no_out z b
 by_endings z limit a b Finished (NoMatch n) p q x y = absurd (reads_no_out z b n a.rna y.reads x.ran_out)
 by_endings z limit a b Finished TooLong p q x y = absurd (reads_no_out z b y.2.rest a.rna y.2.matches.reads x.ran_out)
 by_endings z limit a b Finished Finished p q x y =
-    same_attempt a b (x.no_pattern ∙ sym y.no_pattern) (x.no_template ∙ sym y.no_template) (ran_out_same z a.rna b.rna x.ran_out y.ran_out) (p ∙ sym q)
+    same_attempt a b (x.no_pattern ∙ sym y.no_pattern) (x.no_template ∙ sym y.no_template) (runs_out_once (known_front z) a.rna b.rna x.ran_out y.ran_out) (p ∙ sym q)
 
 pub one_attempt : HasOneAttempt
 one_attempt z limit a b x y = by_endings z limit a b a.ending b.ending refl refl x y

@@ -1,14 +1,14 @@
 -- One attempt of the machine on cells: the readings see the known front alone.
-use Rattle.std.specs.Prelude.{◌≡◌, ◌⊎◌, ℕ, ◌-◌, ◌<◌, ◌≤◌, true, false, Option, Some, None, List, [], ◌∷◌, ◌++◌, drop, length}
+use Rattle.std.specs.Prelude.{◌≡◌, ℕ, ◌-◌, ◌<◌, ◌≤◌, true, false, Option, Some, None, List, [], ◌∷◌, ◌++◌, drop, length}
 use Rattle.fuun_base.specs.declared.letters.Base.{Base}
 use Rattle.dna_items.specs.declared.items.PatItem.{PatItem}
 use Rattle.dna_items.specs.declared.items.TplItem.{TplItem}
+use Rattle.dna_reader.specs.Pairs.{PairRunsOut}
 use Rattle.dna_reader.specs.Reading.{Read}
 use Rattle.dna_reader.specs.Tables.{ReadsPattern, ReadsTemplate}
 use Rattle.matcher.specs.Match.{last_place}
 use Rattle.matcher.specs.Groups.{AreGroups}
 use Rattle.exec_loop.specs.Attempt as machine
-use Rattle.exec_loop.specs.Attempt.{PatternRanOut, TemplateRanOut}
 use Rattle.sym_strand.specs.declared.cells.Cell.{Cell}
 use Rattle.sym_strand.specs.Cells.{known_front}
 use Rattle.explainer.specs.Filling.{fill}
@@ -42,7 +42,7 @@ pub record ReadsBoth (z : List Cell) (attempt : Attempt) (rest : List Cell) : Ty
 
 -- a reading of the known front ran out
 abbrev pub RanOutOn : List Cell → List (List Base) → Type 0
-RanOutOn z rna = PatternRanOut (known_front z) rna ⊎ TemplateRanOut (known_front z) rna
+RanOutOn z rna = PairRunsOut (known_front z) rna
 
 -- a reading ran out, and all is known: no items count
 pub record Finishes (z : List Cell) (attempt : Attempt) : Type 0 where

@@ -4,9 +4,10 @@ ghost use Rattle.sym_strand.specs.Cells.{all_known};
 ghost use Rattle.explainer.specs.Making.{Comes, ComesOfItems};
 
 use crate::matching::{CellMatch, match_cells};
-use crate::reading::{Items, read_front};
+use crate::reading::read_front;
 use crate::replacing::put;
 use cell_rope::CellRope;
+use dna_reader::Pair;
 use fuun_base::{CommandList, NoMemory, Steps};
 use std::alloc::Global;
 use std::sync::ledger::Ledger;
@@ -34,7 +35,7 @@ pub(crate) fn step<L: Ledger>(
     ensures { IfOk result (Comes dna.now limit rna.old rna.new) }
 {
     match read_front(alloc, dna, rna, steps)? {
-        Some(items) => rewrite(alloc, dna, limit, &items, steps),
+        Some(pair) => rewrite(alloc, dna, limit, &pair, steps),
         None => Ok(run_out(dna)),
     }
 }
@@ -49,26 +50,26 @@ fn run_out(dna: &CellRope) -> Next
     }
 }
 
-/// Matches the items on the cells behind them, and makes the next cells.
+/// Matches the pair on the cells behind it, and makes the next cells.
 fn rewrite<L: Ledger>(
     alloc: Global,
     dna: &CellRope,
     limit: u64,
-    items: &Items,
+    pair: &Pair,
     steps: &mut Steps<L>,
 ) -> Result<Next, NoMemory>
-    requires place { items.now.place ≤ length dna.now }
-    requires balanced { IsBalanced items.now.pattern }
+    requires place { pair.now.next ≤ length dna.now }
+    requires balanced { IsBalanced pair.now.pattern }
     requires limit { limit ≤ 2 ^ 40 }
     requires within { length dna.now ≤ limit }
-    ensures { IfOk result (ComesOfItems (drop items.now.place dna.now) items.now.pattern items.now.template limit) }
+    ensures { IfOk result (ComesOfItems (drop pair.now.next dna.now) pair.now.pattern pair.now.template limit) }
 {
-    let rest = dna.sub(items.place, dna.len(), steps)?;
-    match match_cells(alloc, &rest, items.pattern.as_slice())? {
+    let rest = dna.sub(pair.next, dna.len(), steps)?;
+    match match_cells(alloc, &rest, pair.pattern.as_slice())? {
         CellMatch::Matched { stop, groups } => put(
             alloc,
             &rest,
-            items.template.as_slice(),
+            pair.template.as_slice(),
             groups.as_slice(),
             stop,
             limit,

@@ -7,16 +7,17 @@ use Rattle.std.proofs.lemmas.Fmt.{decimal_is_IsNumeral}
 use Rattle.std.proofs.lemmas.Str.Parse.{digit_from_value}
 use Rattle.fuun_base.specs.declared.letters.Base.{Base}
 use Rattle.fuun_base.specs.Lines.{lines}
+use Rattle.dna_reader.proofs.PairLemmas.{one_pair, pairs_do_not_run_out}
 use Rattle.listing.specs.Lists.{IsListing, ListsFrom, pair_line}
 use Rattle.listing.specs.Texts.{number_text, pair_text}
-use Rattle.listing.proofs.ListLemmas.{one_listing, one_pair, pair_or_none}
+use Rattle.listing.proofs.ListLemmas.{one_listing}
 use Rattle.listing.proofs.TextLemmas.{big_text, small_text}
 use Rattle.assembler.specs.declared.assembling.AsmError.{AsmError}
 use Rattle.assembler.specs.declared.assembling.AsmError.TheVariants as assemble
 use Rattle.assembler.specs.Answers.{IsAssembled, Pair, ReadsPairs, pairs_code}
 use Rattle.assembler.specs.Laws.{IsSmallPair, pairs_text, shown_from}
 use Rattle.assembler.proofs.AnswerLemmas.{answer_is_one}
-use Rattle.assembler.proofs.Listed.{HasNoFeed, both_clear, line_of, listed_is_assembled, listing_shows_lines, pair_clear, stands_of}
+use Rattle.assembler.proofs.Listed.{HasNoFeed, both_clear, line_of, listed_is_assembled, listing_shows_lines, pair_clear}
 use Rattle.fuun_top.specs.Chaining.{Gives, IsKept, behind_place, without_places}
 use Rattle.fuun_top.specs.MadeChains.{AssembledIsListed, ListedIsAssembledAgain}
 use Rattle.fuun_top.specs.Making.{IsMade, assemble_refusal, told}
@@ -107,10 +108,10 @@ line_cut place text more no_feed no_space text_clear =
 listing_cut : (len : ℕ) (left : List Base) (pairs : List Pair) (rest : List Base) (text : List ℕ) → ReadsPairs left pairs rest → AllByRecursion IsSmallPair pairs
     → ListsFrom len (length pairs) left text → without_places text ≡ pairs_text pairs
 listing_cut len left [] rest text reads small lists = ap without_places lists
-listing_cut len left (pair ∷ pairs) rest text reads small (inl none) = absurd (pair_or_none left pair.0 pair.1 reads.0 (stands_of left reads.0 pair reads.1) none.0)
+listing_cut len left (pair ∷ pairs) rest text reads small (inl none) = absurd (pairs_do_not_run_out left pair.0 pair.1 [] none.0.0 reads.0 reads.1 none.0.1)
 listing_cut len left (pair ∷ pairs) rest text reads small (inr (pattern, template, next, more, stands, lists, is)) =
     let place : ℕ = len - length left in
-    let same = one_pair left pattern pair.0 template pair.1 next reads.0 stands (stands_of left reads.0 pair reads.1) in
+    let same = one_pair left pattern pair.0 template pair.1 stands.0 [] next reads.0 stands.1 reads.1 in
     let begins : text ≡ pair_line place pair.0 pair.1 ++ more = is ∙ ap (λ p. pair_line place p template ++ more) same.pattern ∙ ap (λ t. pair_line place pair.0 t ++ more) same.template in
     let behind = listing_cut len reads.0 pairs rest more reads.2 small.1 (subst (λ d. ListsFrom len (length pairs) d more) same.rest lists) in
     let clear = place_is_clear place in

@@ -7,92 +7,35 @@ use Rattle.fuun_io.specs.Written.{appended, PutsFront}
 use Rattle.fuun_io.proofs.WrittenLemmas.{appended-appended, appended-nil, PutsFront-behind, PutsFront-longer}
 use Rattle.dna_items.specs.declared.items.PatItem.{PatItem}
 use Rattle.dna_items.specs.declared.items.TplItem.{TplItem}
-use Rattle.dna_reader.specs.Reading.{Reading, Read, RanOut}
-use Rattle.dna_reader.specs.Tables.{pattern_table, template_table, ReadsPattern, ReadsTemplate}
-use Rattle.dna_reader.proofs.ReadingLemmas.{one_reading, has_reading}
-use Rattle.dna_reader.proofs.TableLemmas.{pattern_fits, template_fits}
+use Rattle.dna_reader.specs.Pairs.{PairGives, ByPair, ByRunningOut, PairIsRead}
+use Rattle.dna_reader.proofs.PairLemmas.{has_pair, one_pair, pairs_do_not_run_out}
 use Rattle.listing.specs.Laws.{HasListing, HasOneListing}
-use Rattle.listing.specs.Lists.{PairStands, NoPairStands, NoPattern, NoTemplate, PairIsHeld, pair_line, last_line, ListsFrom, IsListing, PutsListing}
+use Rattle.listing.specs.Lists.{BeginsWithNone, pair_line, last_line, ListsFrom, IsListing, PutsListing}
 use Rattle.listing.specs.Texts.{number_text}
 use Rattle.listing.proofs.TextLemmas.{held_pair_text}
-
--- what stands at the front of a DNA is one
-
-abbrev items_in : {Item : Type 0} → Reading Item → List Item
-items_in (Read items rna rest) = items
-items_in (RanOut rna) = []
-
-abbrev rest_in : {Item : Type 0} → Reading Item → List Base
-rest_in (Read items rna rest) = rest
-rest_in (RanOut rna) = []
-
-is_not_run_out : {Item : Type 0} (items : List Item) (rna after : List (List Base)) (rest : List Base) → Read items rna rest ≡ RanOut after → ⊥
-is_not_run_out items rna after rest e = cc
-
-pub record SamePair (p q : List PatItem) (s t : List TplItem) (a b : List Base) : Type 0 where
-  pub pattern : p ≡ q
-  pub template : s ≡ t
-  pub rest : a ≡ b
-
-pub one_pair : (d : List Base) (p q : List PatItem) (s t : List TplItem) (a b : List Base) → PairStands d p s a → PairStands d q t b → SamePair p q s t a b
-one_pair d p q s t a b x y =
-    let first : Read p x.pattern_rna x.middle ≡ Read q y.pattern_rna y.middle = one_reading pattern_table 0 d _ _ x.reads_pattern y.reads_pattern in
-    let middle : x.middle ≡ y.middle = ap rest_in first in
-    let second : Read s x.template_rna a ≡ Read t y.template_rna b =
-    one_reading template_table 0 y.middle _ _ (subst (λ m. ReadsTemplate m (Read s x.template_rna a)) middle x.reads_template) y.reads_template in
-    record { pattern = ap items_in first; template = ap items_in second; rest = ap rest_in second }
-
-pub pair_or_none : (d : List Base) (p : List PatItem) (s : List TplItem) (a : List Base) → PairStands d p s a → NoPairStands d → ⊥
-pair_or_none d p s a x (NoPattern rna reads) =
-    is_not_run_out p x.pattern_rna rna x.middle (one_reading pattern_table 0 d _ _ x.reads_pattern reads)
-pair_or_none d p s a x (NoTemplate q pattern_rna rna middle reads runs_out) =
-    let first : Read p x.pattern_rna x.middle ≡ Read q pattern_rna middle = one_reading pattern_table 0 d _ _ x.reads_pattern reads in
-    let there : ReadsTemplate middle (Read s x.template_rna a) = subst (λ m. ReadsTemplate m (Read s x.template_rna a)) (ap rest_in first) x.reads_template in
-    is_not_run_out s x.template_rna rna a (one_reading template_table 0 middle _ _ there runs_out)
 
 -- listings are one
 
 pub one_lists : (len count : ℕ) (left : List Base) (a b : List ℕ) → ListsFrom len count left a → ListsFrom len count left b → a ≡ b
 one_lists len zero left a b x y = x ∙ sym y
 one_lists len (suc count) left a b (inl x) (inl y) = x.1 ∙ sym y.1
-one_lists len (suc count) left a b (inl x) (inr y) = absurd (pair_or_none left y.0 y.1 y.2 y.4 x.0)
-one_lists len (suc count) left a b (inr x) (inl y) = absurd (pair_or_none left x.0 x.1 x.2 x.4 y.0)
+one_lists len (suc count) left a b (inl x) (inr y) = absurd (pairs_do_not_run_out left y.0 y.1 y.4.0 x.0.0 y.2 y.4.1 x.0.1)
+one_lists len (suc count) left a b (inr x) (inl y) = absurd (pairs_do_not_run_out left x.0 x.1 x.4.0 y.0.0 x.2 x.4.1 y.0.1)
 one_lists len (suc count) left a b (inr x) (inr y) =
-    let same = one_pair left x.0 y.0 x.1 y.1 x.2 y.2 x.4 y.4 in
+    let same = one_pair left x.0 y.0 x.1 y.1 x.4.0 y.4.0 x.2 y.2 x.4.1 y.4.1 in
     let more : x.3 ≡ y.3 = one_lists len count y.2 x.3 y.3 (subst (λ r. ListsFrom len count r x.3) same.rest x.5) y.5 in
     let place : ℕ = len - length left in
     x.6 ∙ ap (λ p. pair_line place p x.1 ++ x.3) same.pattern ∙ ap (λ t. pair_line place y.0 t ++ x.3) same.template ∙ ap (λ l. pair_line place y.0 y.1 ++ l) more ∙ sym y.6
 
--- what stands at the front of a DNA: a pair or none
-pub data PairOrNone (d : List Base) : Type 0 where
-  IsPair : (pattern : List PatItem) (template : List TplItem) (rest : List Base) → PairStands d pattern template rest → PairOrNone d
-  IsNone : NoPairStands d → PairOrNone d
-
-behind_pattern : (d : List Base) (pattern : List PatItem) (pattern_rna : List (List Base)) (middle : List Base) → ReadsPattern d (Read pattern pattern_rna middle) → (reading : Reading TplItem) → ReadsTemplate middle reading → PairOrNone d
-behind_pattern d pattern pattern_rna middle first (Read template template_rna rest) second =
-    IsPair pattern template rest (record { pattern_rna = pattern_rna; template_rna = template_rna; middle = middle; reads_pattern = first; reads_template = second })
-behind_pattern d pattern pattern_rna middle first (RanOut rna) second = IsNone (NoTemplate pattern pattern_rna rna middle first second)
-
-at_front : (d : List Base) (reading : Reading PatItem) → ReadsPattern d reading → PairOrNone d
-at_front d (Read pattern pattern_rna middle) first =
-    let second = has_reading template_table template_fits 0 middle in
-    behind_pattern d pattern pattern_rna middle first second.0 second.1
-at_front d (RanOut rna) first = IsNone (NoPattern rna first)
-
-pub pair_or_none_of : (d : List Base) → PairOrNone d
-pair_or_none_of d =
-    let first = has_reading pattern_table pattern_fits 0 d in
-    at_front d first.0 first.1
-
-lists_at : (len count : ℕ) (left : List Base) → PairOrNone left → ((rest : List Base) → (text : List ℕ) × ListsFrom len count rest text) → (text : List ℕ) × ListsFrom len (suc count) left text
-lists_at len count left (IsPair pattern template rest stands) has =
+lists_at : (len count : ℕ) (left : List Base) (rna : List (List Base)) → PairGives left rna → ((rest : List Base) → (text : List ℕ) × ListsFrom len count rest text) → (text : List ℕ) × ListsFrom len (suc count) left text
+lists_at len count left rna (ByPair pattern template rest stands) has =
     let more = has rest in
-    (pair_line (len - length left) pattern template ++ more.0, inr (pattern, template, rest, more.0, stands, more.1, refl))
-lists_at len count left (IsNone none) has = (last_line (len - length left), inl (none, refl))
+    (pair_line (len - length left) pattern template ++ more.0, inr (pattern, template, rest, more.0, (rna, stands), more.1, refl))
+lists_at len count left rna (ByRunningOut runs_out) has = (last_line (len - length left), inl ((rna, runs_out), refl))
 
 pub has_lists : (len count : ℕ) (left : List Base) → (text : List ℕ) × ListsFrom len count left text
 has_lists len zero left = ([], refl)
-has_lists len (suc count) left = lists_at len count left (pair_or_none_of left) (λ rest. has_lists len count rest)
+has_lists len (suc count) left = let pair = has_pair left in lists_at len count left pair.0 pair.1 (λ rest. has_lists len count rest)
 
 pub has_listing : HasListing
 has_listing d count = has_lists (length d) count d
@@ -122,29 +65,29 @@ one_left : (count number : ℕ) → number < count → count - number ≡ suc (c
 one_left count number more = omega arith
 
 -- the line of the pair that stands at the place, and a listing of what is left behind it
-lists_pair : (d : List Base) (count number place next : ℕ) (pattern : List PatItem) (template : List TplItem) (more : List ℕ) → number < count → place ≤ length d → PairIsHeld d place pattern template next
+lists_pair : {Taker : Type 0} {follows : Taker → List (List Base) → Taker → Type 0} {before after : Taker} → (d : List Base) (count number place next : ℕ) (pattern : List PatItem) (template : List TplItem) (more : List ℕ) → number < count → place ≤ length d → PairIsRead follows before after d place pattern template next
     → ListsFrom (length d) (count - (number + 1)) (drop next d) more → ListsFrom (length d) (count - number) (drop place d) (pair_line place pattern template ++ more)
 lists_pair d count number place next pattern template more goes within pair lists =
     let text : pair_line place pattern template ≡ pair_line (length d - length (drop place d)) pair.items pair.puts =
     ap (λ l. number_text place ++ (codes " " ++ (l ++ codes "\n"))) (held_pair_text pair.items pattern pair.puts template pair.pattern_held pair.template_held)
     ∙ ap (λ n. pair_line n pair.items pair.puts) (sym (place_there d place within)) in
     subst (λ n. ListsFrom (length d) n (drop place d) (pair_line place pattern template ++ more)) (sym (one_left count number goes))
-    (inr (pair.items, pair.puts, drop next d, more, pair.stands, lists, ap (λ l. l ++ more) text))
+    (inr (pair.items, pair.puts, drop next d, more, (pair.rna, pair.stands), lists, ap (λ l. l ++ more) text))
 
 -- the last line, where no pair stands
-lists_last : (d : List Base) (count number place : ℕ) → number < count → place ≤ length d → NoPairStands (drop place d) → ListsFrom (length d) (count - number) (drop place d) (last_line place)
+lists_last : (d : List Base) (count number place : ℕ) → number < count → place ≤ length d → BeginsWithNone (drop place d) → ListsFrom (length d) (count - number) (drop place d) (last_line place)
 lists_last d count number place goes within none =
     subst (λ n. ListsFrom (length d) n (drop place d) (last_line place)) (sym (one_left count number goes))
     (inl (none, ap last_line (sym (place_there d place within))))
 
-pub listed_more : (d : List Base) (count number place next : ℕ) (pattern : List PatItem) (template : List TplItem) (old mid new : Option (List ℕ)) → number < count → IsListed d count number place old mid → PairIsHeld d place pattern template next
+pub listed_more : {Taker : Type 0} {follows : Taker → List (List Base) → Taker → Type 0} {before after : Taker} → (d : List Base) (count number place next : ℕ) (pattern : List PatItem) (template : List TplItem) (old mid new : Option (List ℕ)) → number < count → IsListed d count number place old mid → PairIsRead follows before after d place pattern template next → next ≤ length d
     → new ≡ appended mid (pair_line place pattern template) → IsListed d count (number + 1) next old new
-listed_more d count number place next pattern template old mid new goes listed pair put =
+listed_more d count number place next pattern template old mid new goes listed pair within put =
     let line : List ℕ = pair_line place pattern template in
     record {
       text = listed.text ++ line;
       put = put ∙ ap (λ told. appended told line) listed.put ∙ appended-appended old listed.text line;
-      within = pair.within;
+      within = within;
       goes_on = λ more lists. subst (λ l. IsListing d count l) (sym (append_assoc listed.text line more))
           (listed.goes_on (line ++ more) (lists_pair d count number place next pattern template more goes listed.within pair lists));
     }
@@ -160,7 +103,7 @@ listed_all d count number place old new value all listed =
     }
 
 -- no pair stands there, and the last line was put
-pub listed_last : {T E : Type 0} → (d : List Base) (count number place : ℕ) (old mid new : Option (List ℕ)) (value : T) → number < count → IsListed d count number place old mid → NoPairStands (drop place d) → new ≡ appended mid (last_line place) → PutsListing {T = T} {E = E} d count (Ok value) old new
+pub listed_last : {T E : Type 0} → (d : List Base) (count number place : ℕ) (old mid new : Option (List ℕ)) (value : T) → number < count → IsListed d count number place old mid → BeginsWithNone (drop place d) → new ≡ appended mid (last_line place) → PutsListing {T = T} {E = E} d count (Ok value) old new
 listed_last d count number place old mid new value goes listed none put = record {
   text = listed.text ++ last_line place;
   is = listed.goes_on (last_line place) (lists_last d count number place goes listed.within none);
@@ -174,7 +117,7 @@ listed_in_part d count number place old new listed =
     (listed.text ++ left.0, listed.goes_on left.0 left.1, record { front = listed.text; rest = left.0; whole = refl; put = listed.put })
 
 -- a front of the pair's line was put
-pub listed_in_pair : (d : List Base) (count number place next : ℕ) (pattern : List PatItem) (template : List TplItem) (old mid new : Option (List ℕ)) → number < count → IsListed d count number place old mid → PairIsHeld d place pattern template next
+pub listed_in_pair : {Taker : Type 0} {follows : Taker → List (List Base) → Taker → Type 0} {before after : Taker} → (d : List Base) (count number place next : ℕ) (pattern : List PatItem) (template : List TplItem) (old mid new : Option (List ℕ)) → number < count → IsListed d count number place old mid → PairIsRead follows before after d place pattern template next
     → PutsFront mid new (pair_line place pattern template) → (text : List ℕ) × IsListing d count text × PutsFront old new text
 listed_in_pair d count number place next pattern template old mid new goes listed pair put =
     let line : List ℕ = pair_line place pattern template in
@@ -185,7 +128,7 @@ listed_in_pair d count number place next pattern template old mid new goes liste
     )
 
 -- a front of the last line was put
-pub listed_in_last : (d : List Base) (count number place : ℕ) (old mid new : Option (List ℕ)) → number < count → IsListed d count number place old mid → NoPairStands (drop place d) → PutsFront mid new (last_line place) → (text : List ℕ) × IsListing d count text × PutsFront old new text
+pub listed_in_last : (d : List Base) (count number place : ℕ) (old mid new : Option (List ℕ)) → number < count → IsListed d count number place old mid → BeginsWithNone (drop place d) → PutsFront mid new (last_line place) → (text : List ℕ) × IsListing d count text × PutsFront old new text
 listed_in_last d count number place old mid new goes listed none put = (
   listed.text ++ last_line place,
   listed.goes_on (last_line place) (lists_last d count number place goes listed.within none),

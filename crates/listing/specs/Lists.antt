@@ -1,36 +1,19 @@
 -- The lines of `list`: pairs of a pattern and a template are read one behind the other, and none is matched.
-use Rattle.std.specs.Prelude.{◌≡◌, ◌⊎◌, ℕ, zero, suc, ◌-◌, ◌≤◌, List, [], ◌++◌, Option, Result, codes, drop, length}
+use Rattle.std.specs.Prelude.{◌≡◌, ◌⊎◌, ℕ, zero, suc, ◌-◌, List, [], ◌++◌, Option, Result, codes, length}
 use Rattle.fuun_base.specs.declared.letters.Base.{Base}
 use Rattle.fuun_io.specs.Written.{Puts}
-use Rattle.dna_items.specs.Held.{held_pattern, held_template}
 use Rattle.dna_items.specs.declared.items.PatItem.{PatItem}
 use Rattle.dna_items.specs.declared.items.TplItem.{TplItem}
-use Rattle.dna_reader.specs.Reading.{Read, RanOut}
-use Rattle.dna_reader.specs.Tables.{ReadsPattern, ReadsTemplate}
+use Rattle.dna_reader.specs.Pairs.{PairStands, PairRunsOut}
 use Rattle.listing.specs.Texts.{number_text, pair_text}
 
--- a pattern and then a template are read from d, whatever their RNA, and leave the rest
-pub record PairStands (d : List Base) (pattern : List PatItem) (template : List TplItem) (rest : List Base) : Type 0 where
-  pub pattern_rna : List (List Base)
-  pub template_rna : List (List Base)
-  pub middle : List Base
-  pub reads_pattern : ReadsPattern d (Read pattern pattern_rna middle)
-  pub reads_template : ReadsTemplate middle (Read template template_rna rest)
+-- a pair stands at the front of d and leaves the rest, whatever its RNA
+abbrev pub BeginsWithPair : List Base → List PatItem → List TplItem → List Base → Type 0
+BeginsWithPair d pattern template rest = (rna : List (List Base)) × PairStands d pattern template rna rest
 
--- the pattern of d or the template behind it runs out
-pub data NoPairStands (d : List Base) : Type 0 where
-  NoPattern : (rna : List (List Base)) → ReadsPattern d (RanOut rna) → NoPairStands d
-  NoTemplate : (pattern : List PatItem) (pattern_rna rna : List (List Base)) (middle : List Base)
-      → ReadsPattern d (Read pattern pattern_rna middle) → ReadsTemplate middle (RanOut rna) → NoPairStands d
-
--- the pair at a place of d was read up to another place, and its numbers are held
-pub record PairIsHeld (d : List Base) (place : ℕ) (pattern : List PatItem) (template : List TplItem) (next : ℕ) : Type 0 where
-  pub items : List PatItem
-  pub puts : List TplItem
-  pub stands : PairStands (drop place d) items puts (drop next d)
-  pub pattern_held : pattern ≡ held_pattern items
-  pub template_held : template ≡ held_template puts
-  pub within : next ≤ length d
+-- the pair at the front of d runs out, whatever its RNA
+abbrev pub BeginsWithNone : List Base → Type 0
+BeginsWithNone d = (rna : List (List Base)) × PairRunsOut d rna
 
 -- the line of a pair that starts at a place
 abbrev pub pair_line : ℕ → List PatItem → List TplItem → List ℕ
@@ -44,9 +27,9 @@ last_line place = number_text place ++ codes " finish\n"
 abbrev pub ListsFrom : ℕ → ℕ → List Base → List ℕ → Type 0
 ListsFrom len zero left text = text ≡ []
 ListsFrom len (suc count) left text =
-    (NoPairStands left × (text ≡ last_line (len - length left)))
+    (BeginsWithNone left × (text ≡ last_line (len - length left)))
     ⊎ ((pattern : List PatItem) × (template : List TplItem) × (rest : List Base) × (more : List ℕ)
-    × PairStands left pattern template rest × ListsFrom len count rest more
+    × BeginsWithPair left pattern template rest × ListsFrom len count rest more
     × (text ≡ pair_line (len - length left) pattern template ++ more))
 
 -- the lines of up to so many pairs of a DNA

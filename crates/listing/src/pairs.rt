@@ -1,12 +1,12 @@
-ghost use Rattle.std.specs.Prelude.{◌≡◌, ◌≢◌, ◌≤◌, ◌++◌, codes, drop, length, IfOk, MatchOption};
+ghost use Rattle.std.specs.Prelude.{◌≡◌, ◌≢◌, ◌++◌, codes};
 ghost use Rattle.fuun_io.specs.Counts.{Rose, HasCause};
 ghost use Rattle.fuun_io.specs.Written.{Puts};
-ghost use Rattle.listing.specs.Lists.{NoPairStands, PairIsHeld, PutsListing, pair_line, last_line};
+ghost use Rattle.listing.specs.Lists.{PutsListing, pair_line, last_line};
 ghost use Rattle.listing.specs.Texts.{number_text, pair_text};
 
 use crate::{number, put_pair};
 use dna_items::{PatList, TplList};
-use dna_reader::{Discard, ReadingError, read_pattern, read_template};
+use dna_reader::{Discard, ReadingError, read_pair};
 use fuun_base::NoMemory;
 use fuun_io::{Sink, WriteFault, put_all, put_pieces};
 use itoa::Buffer;
@@ -43,14 +43,6 @@ impl From<NoMemory> for ListError {
     }
 }
 
-/// A pattern and a template that were read, and the place behind the template.
-#[derive(Drop)]
-struct Pair {
-    pattern: PatList,
-    template: TplList,
-    next: u64,
-}
-
 /// Writes the lines of up to `count` pairs of a pattern and a template, read one behind the other from the
 /// first base on. Nothing is matched, and RNA is passed over. After an error a front of the lines is written.
 pub fn list_pairs<T: Strand, S: Sink>(
@@ -65,37 +57,18 @@ pub fn list_pairs<T: Strand, S: Sink>(
 {
     let mut place = 0;
     for _pair in 0..count {
-        let Some(pair) = read_pair(alloc, s, place)? else {
-            put_last_line(place, sink)?;
-            return Ok(());
+        let pair = match read_pair(alloc, s, place, &mut Discard::new()) {
+            Ok(pair) => pair,
+            Err(ReadingError::RanOut) => {
+                put_last_line(place, sink)?;
+                return Ok(());
+            }
+            Err(_) => return Err(ListError::NoMemory),
         };
         put_pair_line(place, &pair.pattern, &pair.template, sink)?;
         place = pair.next;
     }
     Ok(())
-}
-
-/// Reads the pair at a place: None where none starts there.
-fn read_pair<T: Strand>(alloc: Global, s: &T, place: u64) -> Result<Option<Pair>, NoMemory>
-    requires { place ≤ length (T.bases s.now) }
-    ensures { IfOk result (λ read. MatchOption read (NoPairStands (drop place (T.bases s.now)))
-        (λ pair. PairIsHeld (T.bases s.now) place pair.pattern pair.template pair.next)) }
-{
-    let mut rna = Discard::new();
-    let (pattern, middle) = match read_pattern(alloc, s, place, &mut rna) {
-        Ok(read) => read,
-        Err(ReadingError::RanOut) => return Ok(None),
-        Err(_) => return Err(NoMemory),
-    };
-    match read_template(alloc, s, middle, &mut Discard::new()) {
-        Ok((template, next)) => Ok(Some(Pair {
-            pattern,
-            template,
-            next,
-        })),
-        Err(ReadingError::RanOut) => Ok(None),
-        Err(_) => Err(NoMemory),
-    }
 }
 
 // Writes the line of a pair that starts at a place.

@@ -39,20 +39,12 @@ steps_by : (pattern : List PatItem) (template : List TplItem) (d next : List Bas
     → IsReadable pattern → Found d pattern ranges stop → next ≡ replaced d template ranges stop → length next ≤ limit
     → Steps (pair_code pattern template ++ d) next limit
 steps_by pattern template d next ranges stop limit readable found puts within =
-    let reads = pair_code_is_read pattern template d readable in
     let attempt : Attempt = record { pattern = pattern; template = template; rna = []; ending = Matched stop next } in
     let rewrites : Rewrites (pair_code pattern template ++ d) attempt stop next = record {
       rest = d;
       places = found.places;
       groups = ranges;
-      reads = record {
-        pattern_rna = [];
-        template_rna = [];
-        middle = reads.middle;
-        pattern = reads.reads_pattern;
-        template = reads.reads_template;
-        rna = refl;
-      };
+      reads = pair_code_is_read pattern template d readable;
       match = found.match;
       stops = found.stops;
       grouped = found.grouped;

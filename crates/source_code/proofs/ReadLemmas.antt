@@ -3,7 +3,7 @@ use Rattle.std.proofs.Common.{◌≡◌, ℕ, zero, suc, ◌+◌, ◌&&◌, ◌|
 use Rattle.std.proofs.lemmas.List.{drop-drop}
 use Rattle.dna_items.specs.Balance.{start_of, stop_of, starts, stops}
 use Rattle.dna_reader.specs.Codes.{has_search_before_base, is_base, is_search}
-use Rattle.dna_reader.specs.CodeLaws.{ReadsPair}
+use Rattle.dna_reader.specs.Pairs.{PairStands}
 use Rattle.dna_reader.proofs.CodeLemmas.{pair_code_is_read}
 use Rattle.source_items.specs.declared.lines.Line.TheVariants.{Pair}
 use Rattle.source_items.specs.declared.lines.SourceItem.{SourceItem}
@@ -27,8 +27,8 @@ pair_is_read_in_place lines lengths index pattern template later own behind are 
     others_are_behind lines lengths (index + 1) are
     ∙ ap (λ l. dna l (drop (index + 1) lengths)) (sym (drop-drop 1 index lines) ∙ one)
     ∙ ap (dna later) (sym (drop-drop 1 index lengths) ∙ others) in
-    subst (λ l. ReadsPair l (pattern_of own behind pattern) template (drop (total (take (index + 1) lengths)) (dna lines lengths))) (sym first)
-    (subst (λ l. ReadsPair (dna (Pair pattern template ∷ later) (own ∷ behind)) (pattern_of own behind pattern) template l) (sym next)
+    subst (λ l. PairStands l (pattern_of own behind pattern) template [] (drop (total (take (index + 1) lengths)) (dna lines lengths))) (sym first)
+    (subst (λ l. PairStands (dna (Pair pattern template ∷ later) (own ∷ behind)) (pattern_of own behind pattern) template [] l) (sym next)
     (pair_is_read pattern template later own behind readable))
 
 module _ (own other : ℕ) (behind later : List ℕ) where

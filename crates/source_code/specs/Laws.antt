@@ -1,9 +1,9 @@
 -- What holds of settled lines.
-use Rattle.std.specs.Prelude.{◌≡◌, ℕ, ◌+◌, ◌^◌, ◌≤◌, List, ◌∷◌, Result, drop, length, take}
+use Rattle.std.specs.Prelude.{◌≡◌, ℕ, ◌+◌, ◌^◌, ◌≤◌, List, [], ◌∷◌, Result, drop, length, take}
 use Rattle.fuun_base.specs.declared.letters.Base.{Base}
 use Rattle.dna_items.specs.declared.items.TplItem.{TplItem}
 use Rattle.dna_reader.specs.Codes.{IsReadable}
-use Rattle.dna_reader.specs.CodeLaws.{ReadsPair}
+use Rattle.dna_reader.specs.Pairs.{PairStands}
 use Rattle.source_items.specs.declared.lines.Factor.TheVariants.{Rest, Own, Next}
 use Rattle.source_items.specs.declared.lines.Line.{Line}
 use Rattle.source_items.specs.declared.lines.Line.TheVariants.{Pair}
@@ -68,7 +68,7 @@ abbrev pub PairIsRead : Type 0
 PairIsRead =
     (pattern : List SourceItem) (template : List TplItem) (later : List Line) (own : ℕ) (behind : List ℕ)
     → IsReadable (pattern_of own behind pattern)
-    → ReadsPair (dna (Pair pattern template ∷ later) (own ∷ behind)) (pattern_of own behind pattern) template (dna later behind)
+    → PairStands (dna (Pair pattern template ∷ later) (own ∷ behind)) (pattern_of own behind pattern) template [] (dna later behind)
 
 -- so it is at its place in the DNA: the pair is read from there on, and what is left begins where the next line's code does
 abbrev pub PairIsReadInPlace : Type 0
@@ -76,7 +76,7 @@ PairIsReadInPlace =
     (lines : List Line) (lengths : List ℕ) (index : ℕ) (pattern : List SourceItem) (template : List TplItem) (later : List Line) (own : ℕ) (behind : List ℕ)
     → AreLengths lines lengths → drop index lines ≡ Pair pattern template ∷ later → drop index lengths ≡ own ∷ behind
     → IsReadable (pattern_of own behind pattern)
-    → ReadsPair (drop (total (take index lengths)) (dna lines lengths)) (pattern_of own behind pattern) template (drop (total (take (index + 1) lengths)) (dna lines lengths))
+    → PairStands (drop (total (take index lengths)) (dna lines lengths)) (pattern_of own behind pattern) template [] (drop (total (take (index + 1) lengths)) (dna lines lengths))
 
 -- whether a pattern can be read does not depend on the values
 abbrev pub ReadableAlike : Type 0

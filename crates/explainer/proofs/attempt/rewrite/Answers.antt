@@ -18,14 +18,14 @@ put_behind (Err e) rest pattern template stop limit groups leads puts = tt
 pub returns-in-Matched : goal.returns-in-Matched
 returns-in-Matched g c =
     let z = c.args.dna.now in
-    let items = c.args.items.now in
+    let pair = c.args.pair.now in
     let rest = c.in_ok-rest.rest in
     let stop = c.in-Matched.stop in
     let groups = c.in-Matched.groups in
-    let is : rest ≡ drop items.place z = c.in_ok-rest.ensures ∙ ap (λ n. take (n - items.place) (drop items.place z)) c.len.ensures.length ∙ take_rest z items.place in
-    let leads : MatchesSo rest items.pattern (Matched stop groups) =
+    let is : rest ≡ drop pair.next z = c.in_ok-rest.ensures ∙ ap (λ n. take (n - pair.next) (drop pair.next z)) c.len.ensures.length ∙ take_rest z pair.next in
+    let leads : MatchesSo rest pair.pattern (Matched stop groups) =
     subst (λ p. MatchesSo rest p (Matched stop groups)) c.as_slice.ensures (subst (MatchesSo rest c.as_slice.result.now) c.in-Matched.is c.in_ok-stop.ensures) in
-    let puts : IfOk c.put.result (PutsSo (texts_of rest groups) items.template (drop stop rest) c.args.limit) =
+    let puts : IfOk c.put.result (PutsSo (texts_of rest groups) pair.template (drop stop rest) c.args.limit) =
     subst (λ t. IfOk c.put.result (PutsSo (texts_of rest groups) t (drop stop rest) c.args.limit)) c.as_slice-in-Matched.ensures
     (subst (λ l. IfOk c.put.result (PutsSo (texts_of rest l) c.as_slice-in-Matched.result.now (drop stop rest) c.args.limit)) c.as_slice-in-Matched-2.ensures c.put.ensures) in
-    subst (λ r. IfOk c.put.result (ComesOfItems r items.pattern items.template c.args.limit)) is (put_behind c.put.result rest items.pattern items.template stop c.args.limit groups leads puts)
+    subst (λ r. IfOk c.put.result (ComesOfItems r pair.pattern pair.template c.args.limit)) is (put_behind c.put.result rest pair.pattern pair.template stop c.args.limit groups leads puts)

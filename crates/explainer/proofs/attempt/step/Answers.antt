@@ -10,18 +10,18 @@ weaker (Ok x) P Q more p = more x p
 weaker (Err e) P Q more p = tt
 
 pub rewrite-requires-clause-place : goal.rewrite-requires-clause-place
-rewrite-requires-clause-place g c = omega (arith, MatchOption-at_some _ _ c.in-Some.items c.in-Some.is c.in_ok-items.ensures.within, front_most c.args.dna.now)
+rewrite-requires-clause-place g c = omega (arith, MatchOption-at_some _ _ c.in-Some.pair c.in-Some.is c.in_ok-pair.ensures.within, front_most c.args.dna.now)
 
 pub returns-in-Some : goal.returns-in-Some
 returns-in-Some g c =
-    let items = c.in-Some.items in
+    let pair = c.in-Some.pair in
     let small : length c.args.dna.now ≤ 2 ^ 40 = omega (arith, c.requires.limit, c.requires.within) in
     weaker c.rewrite.result _ _
-    (λ next. items_lifted c.args.dna.now c.args.limit c.args.rna.now c.read_front.new.rna items.pattern items.template items.place
-    (MatchOption-at_some _ _ items c.in-Some.is c.in_ok-items.ensures.read) (MatchOption-at_some _ _ items c.in-Some.is c.in_ok-items.ensures.within)
-    (MatchOption-at_some _ _ items c.in-Some.is c.in_ok-items.ensures.few) small c.requires.limit next c.requires.within)
+    (λ next. items_lifted c.args.dna.now c.args.limit c.args.rna.now c.read_front.new.rna pair.pattern pair.template pair.next
+    (MatchOption-at_some _ _ pair c.in-Some.is c.in_ok-pair.ensures.read) (MatchOption-at_some _ _ pair c.in-Some.is c.in_ok-pair.ensures.within)
+    (MatchOption-at_some _ _ pair c.in-Some.is c.in_ok-pair.ensures.few) small c.requires.limit next c.requires.within)
     c.rewrite.ensures
 
 pub returns-in-None : goal.returns-in-None
 returns-in-None g c =
-    ran_out c.args.dna.now c.args.limit c.args.rna.now c.read_front.new.rna (MatchOption-at_none _ _ c.in-None.is c.in_ok-items.ensures.read) (all_known c.args.dna.now) refl c.run_out.result c.run_out.ensures
+    ran_out c.args.dna.now c.args.limit c.args.rna.now c.read_front.new.rna (MatchOption-at_none _ _ c.in-None.is c.in_ok-pair.ensures.read) (all_known c.args.dna.now) refl c.run_out.result c.run_out.ensures
